@@ -1,0 +1,158 @@
+-- What is proved of the definitions: each demand of document 00 as a named type, with the demand quoted above it.
+-- A value of each stands in `proofs/`, gathered in `proofs/Demands.antt`.
+use Prim.Native.Nat.{ℕ, zero, suc, _+_, _≤_, _<_}
+use mathlib.Core.Path.{_≡_}
+use mathlib.Core.Bool.{Bool, true, false}
+use mathlib.Core.Logic.{_↔_, _⊎_, _≢_}
+use mathlib.Core.List.{List, _++_, List·Memᴰ}
+use lib.ListN.{length, getD, take, drop}
+use mathlib.Core.Option.{some}
+use Rattle.hgn.specs.Lists.{At}
+use Rattle.hgn.specs.Meaning.{Literal, Action, Method, Domain, Order, networkOf}
+use Rattle.hgn.specs.State.{State, mostAtoms, emptyState, γ, byRows}
+use Rattle.hgn.specs.Network.{Waiting, step, free, enter, goalsOf, released, decomposed, mostWaiting}
+use Rattle.hgn.specs.Run.{Step, Stepped, taken, stepped, startOf, costOf}
+use Rattle.hgn.specs.Join.{Accepted, Cut, join}
+use Rattle.hgn.specs.Verdict.{passed}
+use Rattle.hgn.specs.Shop.{domain, checkShop}
+use Rattle.hgn.specs.Order.{order, checkOrder}
+use Rattle.hgn.specs.Trace.{steps, stepsOf, checkTrace}
+use Rattle.hgn.specs.Replay.{Replayed, replay}
+use Rattle.hgn.specs.Definition1.{Derivation, Listed, Precedes, Unconstrained}
+use Rattle.hgn.specs.Cases.{MarkedCases}
+
+-- Demand 2. "With sheets that pass and room for as many words of plan as the trace has steps, a trace is accepted if and only if
+-- it is a derivation under Definition 1 of source document 000, with at most 64 goals waiting at each moment; plan, cost and
+-- last state are that derivation's."
+
+-- The trace is a derivation of this plan, which leaves this state.
+abbrev pub Derives : List ℕ → List ℕ → List ℕ → List ℕ → State → Type 0
+Derives shop sheet trace plan last =
+    Derivation mostWaiting (domain shop) 0 (startOf (order sheet)) (goalsOf (order sheet)) (stepsOf trace) plan last
+
+-- The sheets pass and the room holds as many words as the trace has steps.
+abbrev pub Ready : List ℕ → List ℕ → List ℕ → List ℕ → Type 0
+Ready shop sheet trace room = (checkTrace shop sheet trace ≡ passed) × (steps trace ≤ length room)
+
+-- Accepted with this plan and this last state: the plan in the first words of the room, later words unchanged.
+pub record Accepts (shop trace room plan : List ℕ) (last : State) (r : Replayed) : Type 0 where
+  pub number : r .answer .number ≡ 0
+  pub place : r .answer .place ≡ steps trace
+  pub state : r .answer .state ≡ last
+  pub count : r .answer .count ≡ length plan
+  pub cost : r .answer .cost ≡ costOf (domain shop) plan
+  pub plan-words : take (length plan) (r .room) ≡ plan
+  pub later-words : drop (length plan) (r .room) ≡ drop (length plan) room
+
+-- Not accepted: no state, no plan, no cost, the room unchanged.
+pub record LeavesAll (room : List ℕ) (r : Replayed) : Type 0 where
+  pub state : r .answer .state ≡ emptyState
+  pub count : r .answer .count ≡ 0
+  pub cost : r .answer .cost ≡ 0
+  pub unchanged : r .room ≡ room
+
+pub record ReplayIsDefinition1 (shop sheet trace room : List ℕ) : Type 0 where
+  pub accepts-iff : (replay shop sheet trace room .answer .number ≡ 0)
+      ↔ (Ready shop sheet trace room × ((plan : List ℕ) × (last : State) × Derives shop sheet trace plan last))
+  pub results : (plan : List ℕ) (last : State) → Ready shop sheet trace room → Derives shop sheet trace plan last
+      → Accepts shop trace room plan last (replay shop sheet trace room)
+  pub otherwise : replay shop sheet trace room .answer .number ≢ 0 → LeavesAll room (replay shop sheet trace room)
+
+abbrev pub Demand2 : Type 0
+Demand2 = (shop sheet trace room : List ℕ) → ReplayIsDefinition1 shop sheet trace room
+
+-- Demand 3. "For any two orders that pass with one shop sheet, and for every trace of at most 4,096 steps, whatever its moves and
+-- places: it is accepted on their join (every goal of the first before every goal of the second) exactly when there is a cut such
+-- that its front is accepted on the first order, with the second order's goals counted among the 64 throughout, and its back is
+-- accepted on the second from the state that the front leaves. No trace has two such cuts. With such a cut, the plan on the join
+-- is the front's followed by the back's, the cost is the sum of the two, and the last state is the back's."
+-- It is stated of every list of steps, whatever its length.
+
+-- The steps are accepted on the join of the two orders.
+abbrev pub OnJoin : Domain → Order → Order → List Step → List ℕ → State → Type 0
+OnJoin d a b xs plan last = Accepted mostWaiting d (startOf (join a b)) (goalsOf (join a b)) xs plan last
+
+pub record JoinRule (d : Domain) (a b : Order) (xs : List Step) : Type 0 where
+  pub accepted-iff : ((plan : List ℕ) × (last : State) × OnJoin d a b xs plan last) ↔ ((c : ℕ) × Cut d a b xs c)
+  pub one-cut : (c e : ℕ) → Cut d a b xs c → Cut d a b xs e → c ≡ e
+  pub results : (c : ℕ) (cut : Cut d a b xs c) (plan : List ℕ) (last : State)
+      → OnJoin d a b xs plan last ↔ ((plan ≡ cut .frontPlan ++ cut .backPlan) × (last ≡ cut .last))
+  pub cost : (c : ℕ) (cut : Cut d a b xs c) (plan : List ℕ) (last : State)
+      → OnJoin d a b xs plan last → costOf d plan ≡ costOf d (cut .frontPlan) + costOf d (cut .backPlan)
+
+abbrev pub Demand3 : Type 0
+Demand3 = (shop first second : List ℕ) → checkOrder shop first ≡ passed → checkOrder shop second ≡ passed
+    → (xs : List Step) → JoinRule (domain shop) (order first) (order second) xs
+
+-- Document 01's 'after' and 000's partial order. On every network that a run reaches from checked sheets, a goal is free by the
+-- listed pairs exactly when it is unconstrained by their transitive closure, and that closure is a strict partial order.
+
+-- A run of the order's sheet reaches step `n`, this state and this network.
+pub data Reached (d : Domain) (o : Order) : ℕ → State → List Waiting → Type 0 where
+  first : Reached d o 0 (startOf o) (goalsOf o)
+  next : {n : ℕ} {s s′ : State} {w w′ : List Waiting} {done : List ℕ} (x : Step)
+      → Reached d o n s w → stepped mostWaiting d n s w x ≡ taken done s′ w′ → Reached d o (suc n) s′ w′
+
+pub record PartialOrder (w : List Waiting) : Type 0 where
+  pub free-iff : (t : Waiting) → List·Memᴰ t w → (free w t ≡ true) ↔ Unconstrained w t
+  pub irreflexive : (t : Waiting) → ¬ Precedes w t t
+
+abbrev pub NetworksAreOrdered : Type 0
+NetworksAreOrdered = (shop sheet : List ℕ) → checkOrder shop sheet ≡ passed
+    → (n : ℕ) (s : State) (w : List Waiting) → Reached (domain shop) (order sheet) n s w → PartialOrder w
+
+-- 000's operations on such a network. Goal release: "T′ = T \ {t} and ≺′ is the restriction of ≺ to T′". Method application:
+-- "T′ = T ∪ T_m and ≺′ = ≺ ∪ ≺_m ∪ {(t_m, t)}", here of the listed pairs, whose closure is the order.
+
+-- The nodes T_m of a method used at goal `t` in step `n`.
+abbrev pub entering : ℕ → Waiting → Method → List Waiting
+entering n t m = enter (step n) (some (t .name)) 0 (networkOf m)
+
+-- A listed pair between two goals of the list.
+abbrev pub Pair : List Waiting → Waiting → Waiting → Type 0
+Pair w a b = List·Memᴰ a w × List·Memᴰ b w × Listed a b
+
+pub record Operations (d : Domain) (n : ℕ) (w : List Waiting) : Type 0 where
+  pub release-nodes : (p : ℕ) (t a : Waiting) → At w p t → List·Memᴰ a (released w p) ↔ (List·Memᴰ a w × (a ≢ t))
+  pub release-order : (p : ℕ) (t a b : Waiting) → At w p t → Unconstrained w t → List·Memᴰ a (released w p) → List·Memᴰ b (released w p)
+      → Precedes (released w p) a b ↔ Precedes w a b
+  pub method-nodes : (p : ℕ) (t a : Waiting) (m : Method) → At w p t → List·Memᴰ m (d .methods)
+      → List·Memᴰ a (decomposed w p n (networkOf m)) ↔ (List·Memᴰ a w ⊎ List·Memᴰ a (entering n t m))
+  pub method-pairs : (p : ℕ) (t a b : Waiting) (m : Method) → At w p t → List·Memᴰ m (d .methods)
+      → Pair (decomposed w p n (networkOf m)) a b
+      ↔ (Pair w a b
+      ⊎ ((List·Memᴰ a (entering n t m) × List·Memᴰ b (entering n t m) × List·Memᴰ (a .name .number) (b .after))
+      ⊎ (List·Memᴰ a (entering n t m) × (b ≡ t))))
+
+abbrev pub OperationsAre000s : Type 0
+OperationsAre000s = (shop sheet : List ℕ) → checkOrder shop sheet ≡ passed
+    → (n : ℕ) (s : State) (w : List Waiting) → Reached (domain shop) (order sheet) n s w → Operations (domain shop) n w
+
+-- 000: "γ(s, a) = (s - eff⁻(a)) ∪ eff⁺(a)". An action's effect by rows, one after another, is that set, atom by atom.
+
+-- The atom is in the state.
+abbrev pub In : State → ℕ → Type 0
+In s p = getD s p false ≡ true
+
+-- The set (s - eff⁻) ∪ eff⁺ has the atom.
+abbrev pub InEffect : State → List Literal → ℕ → Type 0
+InEffect s effects p =
+    (In s p × (¬ List·Memᴰ (record { sign = false; atom = p }) effects)) ⊎ List·Memᴰ (record { sign = true; atom = p }) effects
+
+pub record Effect (s : State) (effects : List Literal) : Type 0 where
+  pub by-sets : (p : ℕ) → p < mostAtoms → In (γ s effects) p ↔ InEffect s effects p
+  pub by-rows : (p : ℕ) → p < mostAtoms → In (byRows s effects) p ↔ InEffect s effects p
+  pub same : byRows s effects ≡ γ s effects
+
+abbrev pub EffectsAreGamma : Type 0
+EffectsAreGamma = (shop : List ℕ) → checkShop shop ≡ passed → (a : Action) → List·Memᴰ a (domain shop .actions)
+    → (s : State) → length s ≡ mostAtoms → Effect s (a .effects)
+
+-- All of it.
+pub record Proved : Type 0 where
+  pub marked-cases : MarkedCases
+  pub demand-2 : Demand2
+  pub demand-3 : Demand3
+  pub networks-are-ordered : NetworksAreOrdered
+  pub operations-are-000s : OperationsAre000s
+  pub effects-are-gamma : EffectsAreGamma

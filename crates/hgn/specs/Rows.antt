@@ -1,0 +1,35 @@
+-- A sheet's rows: two parallel arrays, of tags and of values, behind the sizes. Document 01, "The three sheets".
+use Prim.Native.Nat.{ℕ, _+_}
+use mathlib.Core.Bool.{Bool, cond, true, false}
+use mathlib.Core.List.{List, [], _∷_, zipWith}
+use lib.Dec.{eqb}
+use lib.ListN.{take, drop, getD}
+
+pub record Row : Type 0 where
+  pub tag : ℕ
+  pub value : ℕ
+
+abbrev pub row : ℕ → ℕ → Row
+row t v = record { tag = t; value = v }
+
+-- The most rows of a shop sheet and of an order sheet.
+abbrev pub mostRows : ℕ
+mostRows = 4000
+
+-- Word `i` of a sheet; 0 past its end.
+abbrev pub word : List ℕ → ℕ → ℕ
+word sheet i = getD sheet i 0
+
+-- The `n` rows of a sheet that has `sizes` words before them.
+unfoldable pub rowsOf : ℕ → ℕ → List ℕ → List Row
+unfolding zipWith
+rowsOf sizes n sheet = zipWith row (take n (drop sizes sheet)) (take n (drop (sizes + n) sheet))
+
+-- The row has this tag.
+abbrev pub has : ℕ → Row → Bool
+has t r = eqb (r .tag) t
+
+-- The values of the rows with this tag.
+unfoldable pub valuesOf : ℕ → List Row → List ℕ
+valuesOf t [] = []
+valuesOf t (r ∷ rs) = cond (has t r) (r .value ∷ valuesOf t rs) (valuesOf t rs)

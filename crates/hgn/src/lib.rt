@@ -1,0 +1,1 @@
+// The planning model. It has no code yet.
