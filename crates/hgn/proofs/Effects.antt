@@ -1,0 +1,103 @@
+-- An action's effects row by row are γ of 000, atom by atom.
+use Prim.Native.Nat.{ℕ, _<_}
+use mathlib.Core.Path.{_≡_, refl, sym, ap, _∙_}
+use mathlib.Core.Bool.{Bool, true, false, cond, _&&_, _||_, or-true, Bool·beq, false≢true}
+use mathlib.Core.Logic.{_↔_, _⊎_, inl, inr, ⊎-elim}
+use mathlib.Core.List.{List, [], _∷_, List·Memᴰ, List·Memᴰ·head, List·Memᴰ·tail}
+use native.Mathlib.Omega.{arith}
+use lib.Dec.{eqb}
+use lib.ListN.{length, getD, set, length-set}
+use lib.Seq.{getD-set-same, getD-set-other, set-comm}
+use borrow.Author.Tests.{eqb-true, eqb-false, eq-eqb}
+use Rattle.hgn.specs.Lists.{any, among}
+use Rattle.hgn.specs.Meaning.{Literal}
+use Rattle.hgn.specs.State.{State, assign, atomsOf, γ, byRows}
+use Rattle.hgn.specs.Demands.{EffectsAreGamma, Effect, In, InEffect}
+use Rattle.hgn.proofs.Tests.{beq-true, eq-beq}
+use Rattle.hgn.proofs.Checked.{Rising, effects-rise}
+
+length-assign : (b : Bool) (atoms : List ℕ) (s : State) → length (assign b atoms s) ≡ length s
+unfolding assign
+length-assign b [] s = refl
+length-assign b (a ∷ atoms) s = length-assign b atoms (set s a b) ∙ length-set s a b
+
+-- An atom after some were put in or taken out.
+getD-assign : (b : Bool) (atoms : List ℕ) (s : State) (p : ℕ) → p < length s
+    → getD (assign b atoms s) p false ≡ cond (among p atoms) b (getD s p false)
+unfolding assign among any
+getD-assign b [] s p h = refl
+getD-assign b (a ∷ atoms) s p h = getD-assign b atoms (set s a b) p (rw length-set h) ∙ go (eqb p a) refl (among p atoms)
+  where
+    go : (x : Bool) → eqb p a ≡ x → (y : Bool) → cond y b (getD (set s a b) p false) ≡ cond (x || y) b (getD s p false)
+    go true e true = refl
+    go true e false = rw (← eqb-true p a e) (getD-set-same s p b false h)
+    go false e true = refl
+    go false e false = getD-set-other s a p b false (eqb-false p a e)
+
+among-atoms : (b : Bool) (p : ℕ) (l : Literal) (ls : List Literal)
+    → among p (atomsOf b (l ∷ ls)) ≡ (Bool·beq (l .sign) b && eqb p (l .atom)) || among p (atomsOf b ls)
+unfolding atomsOf among any
+among-atoms b p l ls = go (Bool·beq (l .sign) b)
+  where
+    go : (x : Bool) → among p (cond x (l .atom ∷ atomsOf b ls) (atomsOf b ls)) ≡ (x && eqb p (l .atom)) || among p (atomsOf b ls)
+    go true = refl
+    go false = refl
+
+-- An atom stands among those of a sign exactly when its literal stands in the list.
+among-mem : (b : Bool) (p : ℕ) (ls : List Literal) → among p (atomsOf b ls) ≡ true → List·Memᴰ (record { sign = b; atom = p }) ls
+unfolding atomsOf among any
+among-mem b p [] h = absurd (false≢true h)
+among-mem b p (l ∷ ls) h = go (Bool·beq (l .sign) b) (eqb p (l .atom)) refl refl (among-mem b p ls) (rw among-atoms at h)
+  where
+    go : (x y : Bool) → Bool·beq (l .sign) b ≡ x → eqb p (l .atom) ≡ y → (among p (atomsOf b ls) ≡ true → List·Memᴰ (record { sign = b; atom = p }) ls)
+        → (x && y) || among p (atomsOf b ls) ≡ true → List·Memᴰ (record { sign = b; atom = p }) (l ∷ ls)
+    go true true e f ih h = List·Memᴰ·head λ i. record { sign = sym (beq-true (l .sign) b e) i; atom = eqb-true p (l .atom) f i }
+    go true false e f ih h = List·Memᴰ·tail (ih h)
+    go false y e f ih h = List·Memᴰ·tail (ih h)
+
+mem-among : {b : Bool} {p : ℕ} {ls : List Literal} → List·Memᴰ (record { sign = b; atom = p }) ls → among p (atomsOf b ls) ≡ true
+mem-among {b} {p} (List·Memᴰ·head {x = l} e) = rw (among-atoms, eq-beq (l .sign) b (sym (ap (λ l. l .sign) e)), eq-eqb p (l .atom) (ap (λ l. l .atom) e))
+mem-among {b} {p} (List·Memᴰ·tail {x = l} m) = rw (among-atoms, mem-among m, or-true)
+
+-- γ of the literals is the set (s - eff⁻) ∪ eff⁺.
+γ-set : (s : State) (ls : List Literal) (p : ℕ) → p < length s → In (γ s ls) p ↔ InEffect s ls p
+unfolding γ
+γ-set s ls p h =
+    rw (getD-assign true (atomsOf true ls) (assign false (atomsOf false ls) s) p (rw length-assign h), getD-assign false (atomsOf false ls) s p h)
+    (go (among p (atomsOf true ls)) (among p (atomsOf false ls)) refl refl)
+  where
+    go : (x y : Bool) → among p (atomsOf true ls) ≡ x → among p (atomsOf false ls) ≡ y
+        → (cond x true (cond y false (getD s p false)) ≡ true) ↔ InEffect s ls p
+    go true y e f = (λ k. inr (among-mem true p ls e), λ k. refl)
+    go false true e f =
+        (λ k. absurd (false≢true k), ⊎-elim (λ k. absurd (k .1 (among-mem false p ls f))) (λ m. sym e ∙ mem-among m))
+    go false false e f =
+        (λ k. inl (k, λ m. false≢true (sym f ∙ mem-among m)), ⊎-elim (λ k. k .0) (λ m. absurd (false≢true (sym e ∙ mem-among m))))
+
+-- An atom below all the others can as well be set last.
+assign-above : (b v : Bool) (a i : ℕ) (ls : List Literal) (s : State) → a < i → Rising i ls
+    → assign b (atomsOf b ls) (set s a v) ≡ set (assign b (atomsOf b ls) s) a v
+unfolding assign atomsOf
+assign-above b v a i [] s h r = refl
+assign-above b v a i (l ∷ ls) s h r = go (Bool·beq (l .sign) b) (λ s. assign-above b v a _ ls s (omega arith) (r .1))
+  where
+    go : (x : Bool) → ((s : State) → assign b (atomsOf b ls) (set s a v) ≡ set (assign b (atomsOf b ls) s) a v)
+        → assign b (cond x (l .atom ∷ atomsOf b ls) (atomsOf b ls)) (set s a v) ≡ set (assign b (cond x (l .atom ∷ atomsOf b ls) (atomsOf b ls)) s) a v
+    go true ih = ap (assign b (atomsOf b ls)) (set-comm s a (l .atom) v b (omega arith)) ∙ ih (set s (l .atom) b)
+    go false ih = ih s
+
+-- Where the atoms rise, none stands twice, and row after row is the two passes.
+rows-γ : (i : ℕ) (ls : List Literal) (s : State) → Rising i ls → byRows s ls ≡ γ s ls
+unfolding byRows γ assign atomsOf
+rows-γ i [] s r = refl
+rows-γ i (l ∷ ls) s r = rows-γ _ ls (set s (l .atom) (l .sign)) (r .1) ∙ go (l .sign)
+  where
+    go : (x : Bool) → γ (set s (l .atom) x) ls ≡ γ s (record { sign = x; atom = l .atom } ∷ ls)
+    go true = ap (assign true (atomsOf true ls)) (assign-above false true (l .atom) _ ls s (omega arith) (r .1))
+    go false = refl
+
+pub effects-are-gamma : EffectsAreGamma
+effects-are-gamma shop e a m s h =
+    let same = rows-γ 0 (a .effects) s (effects-rise shop e a m) in
+    let sets : (p : ℕ) → p < 256 → In (γ s (a .effects)) p ↔ InEffect s (a .effects) p = λ p k. γ-set s (a .effects) p (rw h k) in
+    record { by-sets = sets; by-rows = λ p k. rw same (sets p k); same = same }

@@ -1,0 +1,124 @@
+-- On every network that a run reaches from checked sheets, 000's order is a strict partial order and 000's two operations are
+-- document 01's. Assumes nothing.
+use Prim.Native.Nat.{ℕ}
+use mathlib.Core.Path.{_≡_, sym, ap, _∙_, subst}
+use mathlib.Core.Logic.{_↔_, _⊎_, inl, inr, ⊎-elim, _≢_}
+use mathlib.Core.List.{List, [], _∷_, List·Memᴰ, List·Memᴰ·cases-cons, List·Memᴰ·not-nil, Memᴰ·cast}
+use mathlib.Core.Option.{some}
+use Rattle.hgn.specs.Lists.{At}
+use Rattle.hgn.specs.Meaning.{Node, Method, networkOf}
+use Rattle.hgn.specs.Network.{Waiting, step, enter, noGoal, released, decomposed}
+use Rattle.hgn.specs.Definition1.{Listed, Precedes, listed, through, Unconstrained}
+use Rattle.hgn.specs.Demands.{NetworksAreOrdered, OperationsAre000s, Pair, entering}
+use Rattle.hgn.proofs.Tests.{at-mem, at-getD, last-listed, free-iff-unconstrained}
+use Rattle.hgn.proofs.Reached.{Sound, Apart, Entered, entered, same-goal, released-other, strangers, owner-outside, sound}
+use Rattle.hgn.proofs.Waiting.{released-mem, stays, inserted, inserted-cases, inserted-old, inserted-new}
+
+-- A chain stays one where more goals wait.
+widen : {v w : List Waiting} → ((x : Waiting) → List·Memᴰ x v → List·Memᴰ x w) → {a b : Waiting} → Precedes v a b → Precedes w a b
+widen h (listed m n l) = listed (h _ m) (h _ n) l
+widen h (through c e) = through (widen h c) (widen h e)
+
+-- A chain from a goal that stays is a chain of the goals that stay, if only a goal with nothing listed before it leaves.
+restrict : {v w : List Waiting} (t : Waiting) → ((x : Waiting) → List·Memᴰ x w → (x ≡ t) ⊎ List·Memᴰ x v)
+    → ((x : Waiting) → List·Memᴰ x w → ¬ Listed x t) → {a b : Waiting} → Precedes w a b → List·Memᴰ a v → Precedes v a b × List·Memᴰ b v
+restrict {v} t stay none (listed {p = a} {q = b} m n l) k =
+    let j : List·Memᴰ b v = ⊎-elim (λ e. absurd (none a m (subst (λ (x : Waiting). Listed a x) e l))) (λ i. i) (stay b n) in
+    (listed k j l, j)
+restrict t stay none (through c e) k =
+    let f = restrict t stay none c k in
+    let g = restrict t stay none e (f .1) in
+    (through (f .0) (g .0), g .1)
+
+-- The first goal of a list in order has nothing before it, so a chain from a goal to itself would lie behind it.
+never-round : (w : List Waiting) → Apart w → (t : Waiting) → ¬ Precedes w t t
+never-round [] h t c = List·Memᴰ·not-nil (last-listed c .1)
+never-round (q ∷ v) h t c = never-round v (h .2) t (restrict q (λ x m. List·Memᴰ·cases-cons m) (h .0) c (behind (ends c)) .0)
+  where
+    ends : {a b : Waiting} → Precedes (q ∷ v) a b → List·Memᴰ b (q ∷ v)
+    ends (listed m n l) = n
+    ends (through c e) = ends e
+
+    behind : List·Memᴰ t (q ∷ v) → List·Memᴰ t v
+    behind m = let r = last-listed c in
+        ⊎-elim (λ e. absurd (h .0 (r .0) (r .1) (subst (λ (x : Waiting). Listed (r .0) x) e (r .2)))) (λ k. k) (List·Memᴰ·cases-cons m)
+
+-- A goal is free exactly when it is unconstrained, and no goal precedes itself.
+pub networks-are-ordered : NetworksAreOrdered
+networks-are-ordered shop sheet e n s w r = record {
+  free-iff = free-iff-unconstrained w;
+  irreflexive = never-round w (sound shop sheet e r .apart);
+}
+
+-- The nodes that enter at the goal of place `p` carry its name.
+decomposed-is : (n : ℕ) {w : List Waiting} {p : ℕ} {t : Waiting} (nodes : List Node) → At w p t
+    → decomposed w p n nodes ≡ inserted w p (enter (step n) (some (t .name)) 0 nodes)
+unfolding decomposed
+decomposed-is n {w} {p} nodes k = ap (λ (x : Waiting). inserted w p (enter (step n) (some (x .name)) 0 nodes)) (at-getD noGoal k)
+
+module _ {n : ℕ} {w : List Waiting} (h : Sound n w) where
+  -- T′ = T \ {t}.
+  release-nodes : (p : ℕ) (t a : Waiting) → At w p t → List·Memᴰ a (released w p) ↔ (List·Memᴰ a w × (a ≢ t))
+  release-nodes p t a k = (
+    (λ m. (released-mem k m, λ e. released-other k (h .apart) m (ap (λ (x : Waiting). x .name) e))),
+    (λ r. ⊎-elim (λ e. absurd (r .1 e)) (λ m. m) (stays k (r .0))),
+  )
+
+  -- ≺′ is the restriction of ≺ to T′.
+  release-order : (p : ℕ) (t a b : Waiting) → At w p t → Unconstrained w t → List·Memᴰ a (released w p) → List·Memᴰ b (released w p)
+      → Precedes (released w p) a b ↔ Precedes w a b
+  release-order p t a b k u m j = (
+    (λ c. widen (λ x i. released-mem k i) c),
+    (λ c. restrict t (λ x i. stays k i) (λ x i l. u x (listed i (at-mem k) l)) c m .0),
+  )
+
+  -- T′ = T ∪ T_m.
+  method-nodes : (p : ℕ) (t a : Waiting) (m : Method) → At w p t
+      → List·Memᴰ a (decomposed w p n (networkOf m)) ↔ (List·Memᴰ a w ⊎ List·Memᴰ a (entering n t m))
+  method-nodes p t a m k = rw (decomposed-is n (networkOf m) k) (inserted-cases (entering n t m) k, ⊎-elim (inserted-old (entering n t m) k) (inserted-new w p))
+
+  -- ≺′ = ≺ ∪ ≺_m ∪ {(t_m, t)}, of the listed pairs: a new node is listed before new ones by row and before `t`, and no old one is
+  -- listed before a new one.
+  method-pairs : (p : ℕ) (t a b : Waiting) (m : Method) → At w p t
+      → Pair (decomposed w p n (networkOf m)) a b
+      ↔ (Pair w a b
+      ⊎ ((List·Memᴰ a (entering n t m) × List·Memᴰ b (entering n t m) × List·Memᴰ (a .name .number) (b .after))
+      ⊎ (List·Memᴰ a (entering n t m) × (b ≡ t))))
+  method-pairs p t a b m k = ((λ r. to (nodes a .0 (r .0)) (nodes b .0 (r .1)) (r .2)), from)
+    where
+      New : Waiting → Type 0
+      New x = List·Memᴰ x (entering n t m)
+
+      nodes : (x : Waiting) → List·Memᴰ x (decomposed w p n (networkOf m)) ↔ (List·Memᴰ x w ⊎ New x)
+      nodes x = method-nodes p t x m k
+
+      r : (x : Waiting) → New x → Entered (step n) (some (t .name)) 0 x
+      r x i = entered (networkOf m) i
+
+      both : New a → New b → Listed a b → List·Memᴰ (a .name .number) (b .after)
+      both i j (Listed.by-row o l) = l
+      both i j (Listed.by-method o) = absurd (owner-outside h (at-mem k) (b .name) (sym (r a i .its-owner) ∙ o) (r b j .its-origin))
+
+      to : List·Memᴰ a w ⊎ New a → List·Memᴰ b w ⊎ New b → Listed a b → Pair w a b ⊎ ((New a × New b × List·Memᴰ (a .name .number) (b .after)) ⊎ (New a × (b ≡ t)))
+      to (inl i) (inl j) l = inl (i, j, l)
+      to (inl i) (inr j) l = absurd (strangers (networkOf m) h a b i j .not-after l)
+      to (inr i) (inl j) l = inr (inr (i, same-goal w (h .apart) j (at-mem k) (strangers (networkOf m) h b a j i .before-owner l)))
+      to (inr i) (inr j) l = inr (inl (i, j, both i j l))
+
+      from : Pair w a b ⊎ ((New a × New b × List·Memᴰ (a .name .number) (b .after)) ⊎ (New a × (b ≡ t))) → Pair (decomposed w p n (networkOf m)) a b
+      from (inl q) = (nodes a .1 (inl (q .0)), nodes b .1 (inl (q .1)), q .2)
+      from (inr (inl q)) = (nodes a .1 (inr (q .0)), nodes b .1 (inr (q .1)), Listed.by-row (r a (q .0) .its-origin ∙ sym (r b (q .1) .its-origin)) (q .2))
+      from (inr (inr q)) = (
+        nodes a .1 (inr (q .0)),
+        nodes b .1 (inl (Memᴰ·cast (q .1) (at-mem k))),
+        Listed.by-method (r a (q .0) .its-owner ∙ ap (λ (x : Waiting). some (x .name)) (sym (q .1))),
+      )
+
+-- A release and a method change nodes and order as 000 says.
+pub operations-are-000s : OperationsAre000s
+operations-are-000s shop sheet e n s w r = let h = sound shop sheet e r in record {
+  release-nodes = release-nodes h;
+  release-order = release-order h;
+  method-nodes = λ p t a m k i. method-nodes h p t a m k;
+  method-pairs = λ p t a b m k i. method-pairs h p t a b m k;
+}
