@@ -1,23 +1,26 @@
--- What a passed check gives: the sizes, the numbers of nodes, that nodes come only after lower nodes, that literals rise.
-use Prim.Native.Nat.{ℕ, zero, suc, _≤_, _<_}
+-- What a passed check gives: the sizes, the numbers of nodes, that nodes come only after lower nodes, that a method's network ends
+-- in its goal, the largest cost, that literals rise.
+use Prim.Native.Nat.{ℕ, suc, _+_, _-_, _≤_, _<_}
 use mathlib.Core.Path.{_≡_, refl, sym, ap, _∙_, subst}
 use mathlib.Core.Bool.{Bool, true, false, cond, not, _||_, and-eq-true-iff, false≢true}
 use mathlib.Core.Logic.{_⊎_, inl, inr, ⊎-elim}
-use mathlib.Core.List.{List, [], _∷_, map, List·Memᴰ, List·Memᴰ·head, List·Memᴰ·tail, List·Memᴰ·not-nil, List·Memᴰ·cases-cons, List·Memᴰ·append-cases, List·Memᴰ·eq-of-singleton, Memᴰ·of-map}
+use mathlib.Core.List.{List, [], _∷_, map, headD, List·Memᴰ, List·Memᴰ·head, List·Memᴰ·tail, List·Memᴰ·not-nil, List·Memᴰ·cases-cons, Memᴰ·of-map}
 use native.Mathlib.Omega.{arith}
 use lib.Dec.{eqb, ltb}
 use lib.ListN.{length}
 use borrow.Author.Tests.{eqb-true, leb-true, ltb-true, not-true}
-use Rattle.hgn.specs.Lists.{any, all, keep, upTo, parts, among, below}
+use Rattle.hgn.specs.Lists.{all, keep, upTo, parts, among, below}
 use Rattle.hgn.specs.Tag.{Context, atStart, inAction, inEffects, inMethod, inNode, inAlternative, Position, opening, shopFollow, orderFollow, contextAfter, begins, leastHere, advance, inRange, rises}
 use Rattle.hgn.specs.Rows.{Row, row, has, valuesOf}
-use Rattle.hgn.specs.Meaning.{Literal, Node, Action, Method, literals, nodeOf, nodesOf, actionOf, methodOf, opens, headed, domainOf, orderOf, lastAfterAll, networkOf}
+use Rattle.hgn.specs.Meaning.{Literal, Formula, Node, Action, Method, literals, nodeOf, nodesOf, firstValue, actionOf, methodOf, opens, headed, domainOf, orderOf, lastOf, goalOf, lastAfterAll, networkOf}
 use Rattle.hgn.specs.Verdict.{Verdict, passed, refused, ask, andThen, rowQuestions}
 use Rattle.hgn.specs.Shop
 use Rattle.hgn.specs.Shop.{domain, checkShop, nodeRules, methodQuestions}
 use Rattle.hgn.specs.Order
 use Rattle.hgn.specs.Order.{order, checkOrder}
 use Rattle.hgn.specs.Trace.{checkTrace}
+use Rattle.hgn.specs.Demands.{MethodsEndInGoals}
+use Rattle.hgn.proofs.Tests.{below-lt}
 
 -- A question that passed, and the rest after it.
 pub ask-passed : (b : Bool) (number place : ℕ) (rest : Verdict) → ask b number place rest ≡ passed → (b ≡ true) × (rest ≡ passed)
@@ -58,8 +61,8 @@ rows-checked follow q F i p (r ∷ rs) e =
 
 -- What a shop sheet that passes has passed.
 record ShopPassed (shop : List ℕ) : Type 0 where
-  atoms : Shop.atoms shop ≤ 256
-  rows : Checked shopFollow (Shop.atoms shop) opening (Shop.shopRows shop)
+  atoms : Shop.atomCount shop ≤ 256
+  rows : Checked shopFollow (Shop.atomCount shop) opening (Shop.shopRows shop)
   actions : length (domain shop .actions) ≤ 255
   methods : length (domain shop .methods) ≤ 255
   rules : methodQuestions 0 (domain shop .methods) ≡ passed
@@ -89,7 +92,7 @@ shop-methods shop e = shop-passed shop e .methods
 
 -- What an order sheet that passes has passed.
 record OrderPassed (sheet : List ℕ) : Type 0 where
-  rows : Checked orderFollow (Order.atoms sheet) opening (Order.orderRows sheet)
+  rows : Checked orderFollow (Order.atomCount sheet) opening (Order.orderRows sheet)
   goals : length (order sheet .goals) ≤ 64
 
 order-passed : (shop sheet : List ℕ) → checkOrder shop sheet ≡ passed → OrderPassed sheet
@@ -222,7 +225,8 @@ kept test (y ∷ ys) {x} m = go (test y) refl (kept test ys) m
 -- The rows of an action (`t` is 1) or of a method (2) are its first row and the rows up to the next, which pass from there on.
 -- What holds of whatever is read from such rows holds of every action, or of every method.
 module _ {A : Type 0} (t : ℕ) {F : ℕ} (f : List Row → A) (P : A → Type 0)
-    (each : (p : Position) (v : ℕ) (rs : List Row) → Checked shopFollow F (advance p t v) rs → P (f (row t v ∷ upTo opens rs))) where
+    (each : (p : Position) (v : ℕ) (rs : List Row) → inRange F p t v ≡ true → Checked shopFollow F (advance p t v) rs
+    → P (f (row t v ∷ upTo opens rs))) where
   block : {p : Position} {rs b : List Row} → Checked shopFollow F p rs → headed t b ≡ true → List·Memᴰ b (parts opens rs) → P (f b)
   unfolding parts headed
   block end h m = absurd (List·Memᴰ·not-nil m)
@@ -230,7 +234,7 @@ module _ {A : Type 0} (t : ℕ) {F : ℕ} (f : List Row → A) (P : A → Type 0
     where
       go : (o : Bool) → (List·Memᴰ b (parts opens rs) → P (f b))
           → List·Memᴰ b (cond o ((r ∷ upTo opens rs) ∷ parts opens rs) (parts opens rs)) → P (f b)
-      go true ih (List·Memᴰ·head q) = let e = eqb-true (r .tag) t (rw q at h) in rw (q, e) (each p (r .value) rs (rw e at c))
+      go true ih (List·Memᴰ·head q) = let e = eqb-true (r .tag) t (rw q at h) in rw (q, e) (each p (r .value) rs (rw e at range) (rw e at c))
       go true ih (List·Memᴰ·tail m) = ih m
       go false ih m = ih m
 
@@ -262,13 +266,6 @@ method-nodes shop e m k =
     let same = length-lastAfterAll 0 (m .nodes) in
     omega (arith, leb-true)
 
-pub below-lt : (i k : ℕ) → List·Memᴰ k (below i) → k < i
-unfolding below
-below-lt zero k m = absurd (List·Memᴰ·not-nil m)
-below-lt (suc i) k m =
-    ⊎-elim (λ m. let h = below-lt i k m in omega arith) (λ m. let e = List·Memᴰ·eq-of-singleton m in omega arith)
-    (List·Memᴰ·append-cases (below i) m)
-
 numbered-lastAfterAll : (i : ℕ) (ns : List Node) → Numbered i ns → Numbered i (lastAfterAll i ns)
 unfolding lastAfterAll
 numbered-lastAfterAll i [] h = tt
@@ -281,8 +278,41 @@ pub method-numbered : (shop : List ℕ) → checkShop shop ≡ passed → (m : M
 unfolding domain domainOf methodOf networkOf nodesOf advance
 method-numbered shop e m k =
     numbered-lastAfterAll 0 (m .nodes)
-    (blocks 2 methodOf (λ m. Numbered 0 (m .nodes)) (λ p v rs c. nodes-numbered 0 (upTo opens rs) (afters-checked c))
+    (blocks 2 methodOf (λ m. Numbered 0 (m .nodes)) (λ p v rs g c. nodes-numbered 0 (upTo opens rs) (afters-checked c))
     (shop-passed shop e .rows) k)
+
+-- The last node has the formula of the last listed node, and comes after all the others.
+last-after-all : (i : ℕ) (ns : List Node) → 1 ≤ length ns
+    → (lastOf (lastAfterAll i ns) .formula ≡ lastOf ns .formula) × (lastOf (lastAfterAll i ns) .after ≡ below (i + length ns - 1))
+unfolding lastAfterAll lastOf
+last-after-all i [] h = absurd (omega arith)
+last-after-all i (n ∷ []) h = (refl, ap below (omega arith))
+last-after-all i (n ∷ m ∷ []) h = (refl, ap below (omega arith))
+last-after-all i (n ∷ m ∷ k ∷ ns) h =
+    let r = last-after-all (suc i) (m ∷ k ∷ ns) (omega arith) in
+    (r .0, r .1 ∙ ap below (omega arith))
+
+one-alternative : (f : Formula) → length f ≡ 1 → f ≡ headD f [] ∷ []
+unfolding headD
+one-alternative [] e = absurd (omega arith)
+one-alternative (c ∷ []) e = refl
+one-alternative (c ∷ k ∷ f) e = absurd (omega arith)
+
+-- A method's network ends in a node with the method's goal.
+pub methods-end-in-goals : MethodsEndInGoals
+unfolding networkOf nodeRules goalOf
+methods-end-in-goals shop e m k =
+    let rules = simp and-eq-true-iff at (nodes-rules 0 m _ (shop-passed shop e .rules) k) in
+    let r = last-after-all 0 (m .nodes) (omega (arith, leb-true)) in
+    record {
+      goal = r .0 ∙ one-alternative _ (omega (arith, eqb-true));
+      after-others = r .1 ∙ ap below (omega (arith, length-lastAfterAll 0 (m .nodes)));
+    }
+
+-- An action costs at most 65,535.
+pub action-cost : (shop : List ℕ) → checkShop shop ≡ passed → (a : Action) → List·Memᴰ a (domain shop .actions) → a .cost ≤ 65535
+unfolding domain domainOf actionOf firstValue inRange
+action-cost shop e a k = blocks 1 actionOf (λ a. a .cost ≤ 65535) (λ p v rs g c. leb-true _ _ g) (shop-passed shop e .rows) k
 
 -- The literals of the rows up to the next action or method: none, or the first row's and those of the rows after it.
 literal-cases : (t f : ℕ) (P : List Literal → Type 0) (r : Row) (rs : List Row) → P []
@@ -325,7 +355,7 @@ pub effects-rise : (shop : List ℕ) → checkShop shop ≡ passed → (a : Acti
     → Rising 0 (a .effects)
 unfolding domain domainOf actionOf literals
 effects-rise shop e a k =
-    blocks 1 actionOf (λ a. Rising 0 (a .effects)) (λ p v rs c. effects-rising c .0) (shop-passed shop e .rows) k
+    blocks 1 actionOf (λ a. Rising 0 (a .effects)) (λ p v rs g c. effects-rising c .0) (shop-passed shop e .rows) k
 
 -- The 3 and 4 rows of an action rise, and none comes after its 5 and 6 rows.
 needs-rising : {F : ℕ} {p : Position} {rs : List Row} → Checked shopFollow F p rs
@@ -347,7 +377,7 @@ pub action-needs-rise : (shop : List ℕ) → checkShop shop ≡ passed → (a :
     → Rising 0 (a .needs)
 unfolding domain domainOf actionOf literals advance contextAfter begins among
 action-needs-rise shop e a k =
-    blocks 1 actionOf (λ a. Rising 0 (a .needs)) (λ p v rs c. needs-rising c .0 refl) (shop-passed shop e .rows) k
+    blocks 1 actionOf (λ a. Rising 0 (a .needs)) (λ p v rs g c. needs-rising c .0 refl) (shop-passed shop e .rows) k
 
 -- Every literal's atom is below `n`.
 abbrev pub AtomsBelow : ℕ → List Literal → Type 0
@@ -375,7 +405,7 @@ unfolding domain domainOf actionOf literals inRange begins among
 atoms-below shop e a k =
     let c = shop-passed shop e in
     blocks 1 actionOf (λ a. AtomsBelow 256 (a .effects) × AtomsBelow 256 (a .needs))
-    (λ p v rs d. (
+    (λ p v rs g d. (
       literals-below 5 6 (c .atoms) (λ p v. refl) (λ p v. refl) d,
       literals-below 3 4 (c .atoms) (λ p v. refl) (λ p v. refl) d,
     ))

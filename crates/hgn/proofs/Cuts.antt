@@ -1,32 +1,31 @@
 -- Demand 3: a run on the join splits at exactly one cut, and the parts of a cut make a run on the join. Assumes nothing.
 use Prim.Native.Nat.{ℕ, zero, suc, _+_, _-_, _≤_, _<_, zero-le}
 use native.Mathlib.Omega.{arith}
-use native.Mathlib.Nat.{add-zero, zero-add, add-suc, suc-add, add-assoc, add-comm, le-of-suc-le-suc, not-suc-le-zero}
+use native.Mathlib.Nat.{add-zero, zero-add, add-suc, suc-add, le-of-suc-le-suc, not-suc-le-zero}
 use mathlib.Core.Path.{_≡_, refl, sym, ap, ap₂, _∙_, subst, subst₂}
 use mathlib.Core.Bool.{Bool, true, false}
-use mathlib.Core.Logic.{_↔_}
 use mathlib.Core.List.{List, [], _∷_, _++_, map, map-id, append-assoc, List·Memᴰ, List·Memᴰ·head, List·Memᴰ·tail, Memᴰ·append-left}
 use mathlib.Core.Option.{none}
 use lib.Dec.{ltb}
-use lib.ListN.{length, getD, take, drop, length-append, length-map}
+use lib.ListN.{length, take, drop, length-append, length-map}
 use borrow.Author.Tests.{ltb-true, ltb-false}
 use Rattle.hgn.specs.Meaning.{Domain, Node, Order}
 use Rattle.hgn.specs.State.{State}
-use Rattle.hgn.specs.Network.{order, Waiting, free, enter, goalsOf, goalAt, noGoal}
-use Rattle.hgn.specs.Run.{Step, Stepped, refused, taken, stepped, accepted, ended, run, startOf, costOf, actionAt}
-use Rattle.hgn.specs.Join.{raised, join, Accepted, Cut}
+use Rattle.hgn.specs.Network.{order, Waiting, free, enter, goalsOf, goalAt}
+use Rattle.hgn.specs.Run.{Step, Stepped, refused, taken, stepped, accepted, ended, run, startOf, costOf}
+use Rattle.hgn.specs.Join.{raised, join, Cut}
 use Rattle.hgn.specs.Demands.{OnJoin, JoinRule, Demand3}
-use Rattle.hgn.specs.Verdict.{passed}
 use Rattle.hgn.specs.Order as Sheet
 use Rattle.hgn.specs.Shop as Shop
-use Rattle.hgn.proofs.Tests.{false-not-true}
+use Rattle.hgn.proofs.Tests.{false-not-true, lt-below}
 use Rattle.hgn.proofs.Steps.{took, taken-done, taken-state, taken-list}
 use Rattle.hgn.proofs.Embedding.{carried, step-carried}
 use Rattle.hgn.proofs.Runs.{Resumes, resumes, resumed-accepts, ended-empty, empty-refuses, accepted-plan, accepted-state}
 use Rattle.hgn.proofs.Front.{Front, of-order, Back, BackGoal, front-embeds, front-blocks, front-step}
-use Rattle.hgn.proofs.Renaming.{rename, goals-renamed, later, later-accepted, run-renamed, lt-below}
+use Rattle.hgn.proofs.Renaming.{goals-renamed, later, later-accepted, run-renamed}
 use Rattle.hgn.proofs.Checked.{Numbered, order-numbered, order-goals}
 use Rattle.hgn.proofs.Waiting.{length-enter}
+use Rattle.hgn.proofs.Costs.{cost-append}
 
 -- A place behind the first part is one of the second.
 behind : (w v : List Waiting) (p : ℕ) → length w ≤ p → p < length (w ++ v) → List·Memᴰ (goalAt (w ++ v) p) v
@@ -187,7 +186,7 @@ enter-append : (i : ℕ) (ns ms : List Node) → enter order none i (ns ++ ms) �
 unfolding enter
 enter-append i [] ms = ap (λ (k : ℕ). enter order none k ms) (sym (add-zero i))
 enter-append i (n ∷ ns) ms =
-    ap {B = List Waiting} (λ l. record { name = record { origin = order; number = i }; owner = none; after = n .after; formula = n .formula } ∷ l)
+    ap {B = List Waiting} (λ l. record { name = record { origin = order; number = i }; parent = none; after = n .after; formula = n .formula } ∷ l)
     (enter-append (suc i) ns ms
     ∙ ap {B = List Waiting} (λ k. enter order none (suc i) ns ++ enter order none k ms) (suc-add i (length ns) ∙ sym (add-suc i (length ns))))
 
@@ -202,19 +201,11 @@ back-start : (g i : ℕ) (nodes : List Node) → g ≤ i → Back g (enter order
 unfolding enter raised
 back-start g i [] h q m = elim m [ ]
 back-start g i (n ∷ nodes) h q (List·Memᴰ·head e) =
-    subst (BackGoal g) (sym e) (record { origin = refl; number = h; owner = refl; afters = λ k l. Memᴰ·append-left (map (λ j. g + j) (n .after)) (lt-below g k l) })
+    subst (BackGoal g) (sym e) (record { origin = refl; number = h; parent = refl; afters = λ k l. Memᴰ·append-left (map (λ j. g + j) (n .after)) (lt-below g k l) })
 back-start g i (n ∷ nodes) h q (List·Memᴰ·tail m) = back-start g (suc i) nodes (omega arith) q m
-
-cost-append : (d : Domain) (p q : List ℕ) → costOf d (p ++ q) ≡ costOf d p + costOf d q
-unfolding costOf
-cost-append d [] q = sym (zero-add (costOf d q))
-cost-append d (k ∷ p) q = ap (λ (c : ℕ). actionAt d k .cost + c) (cost-append d p q) ∙ sym (add-assoc (actionAt d k .cost) (costOf d p) (costOf d q))
 
 -- The rule, over two orders of which the first's goals come only after lower ones and the second's are at most 64.
 module _ (d : Domain) (a b : Order) (numbered : Numbered 0 (a .goals)) (few : length (b .goals) ≤ 64) (xs : List Step) where
-  g : ℕ
-  g = length (a .goals)
-
   v : List Waiting
   v = raisedGoals (length (a .goals)) (b .goals)
 
@@ -300,8 +291,12 @@ module _ (d : Domain) (a b : Order) (numbered : Numbered 0 (a .goals)) (few : le
         (k .inside) (m .inside) (k .front .runs) (m .front .runs);
     results = λ c k plan last. (only c k plan last, λ e. subst₂ (OnJoin d a b xs) (sym (e .0)) (sym (e .1)) (from-cut c k));
     cost = λ c k plan last acc. ap (costOf d) (only c k plan last acc .0) ∙ cost-append d (k .frontPlan) (k .backPlan);
+    too-many = λ m. (full m, λ c k. full m _ _ (from-cut c k));
   }
     where
+      full : 64 < length (a .goals) + length (b .goals) → (plan : List ℕ) (last : State) → ¬ OnJoin d a b xs plan last
+      full m plan last acc = omega (arith, acc .within, whole-length)
+
       only : (c : ℕ) (k : Cut d a b xs c) (plan : List ℕ) (last : State) → OnJoin d a b xs plan last → (plan ≡ k .frontPlan ++ k .backPlan) × (last ≡ k .last)
       only c k plan last acc =
           let e = sym (acc .runs) ∙ from-cut c k .runs in

@@ -1,6 +1,6 @@
--- The run accepts exactly the derivations of Definition 1.
+-- The run accepts exactly the derivations of Definition 1, and a derivation's plan is no longer than its steps.
 -- Assumes nothing.
-use Prim.Native.Nat.{ℕ, zero, suc, _+_, _-_, _≤_, _<_}
+use Prim.Native.Nat.{ℕ, suc, _+_, _≤_, _<_}
 use native.Mathlib.Omega.{arith}
 use mathlib.Core.Path.{_≡_, refl, sym, ap, _∙_, subst, subst₂}
 use mathlib.Core.Bool.{true}
@@ -10,9 +10,12 @@ use Rattle.hgn.specs.Lists.{At}
 use Rattle.hgn.specs.Meaning.{Domain, Action, Method, goalOf, networkOf}
 use Rattle.hgn.specs.State.{State, γ}
 use Rattle.hgn.specs.Network.{Waiting, free, goalAt, noGoal, released, decomposed}
-use Rattle.hgn.specs.Run.{Step, firstMethod, Move, release, act, use-method, moveOf, actionAt, noAction, noMethod, accepted, before, ended, run}
+use Rattle.hgn.specs.Run.{Step, firstMethod, Move, release, act, use-method, moveOf, actionAt, noAction, noMethod, accepted, prepend, ended, run}
+use Rattle.hgn.specs.Shop.{domain}
 use Rattle.hgn.specs.Definition1.{EntailsAll, Satisfies, Relevant, Unconstrained, Derivation, base, satisfaction, application, decomposition}
+use Rattle.hgn.specs.Demands.{AcceptedIsDerivation}
 use Rattle.hgn.proofs.Tests.{at-mem, at-getD, at-lt, at-of-lt, all-hold-iff, formula-holds-iff, relevant-iff, free-iff-unconstrained}
+use Rattle.hgn.proofs.Checked.{shop-actions}
 use Rattle.hgn.proofs.Steps.{Moved, by-release, by-action, by-method, took, takes}
 use Rattle.hgn.proofs.Moves.{Reads, as-release, as-action, as-method, reads, reads-action, reads-method}
 use Rattle.hgn.proofs.Waiting.{length-released}
@@ -25,7 +28,7 @@ action-at d {k} a = ap (λ (i : ℕ). getD (d .actions) i noAction) (omega arith
 -- A move at an unconstrained goal, its questions answered, is one step of the run.
 steps-by : (limit : ℕ) (d : Domain) (n : ℕ) (s : State) {w : List Waiting} {p : ℕ} {t : Waiting} → At w p t → Unconstrained w t
     → (m : ℕ) {done : List ℕ} {s′ : State} {w′ : List Waiting} → Moved limit d n s w p (moveOf d m) done s′ w′
-    → (xs : List Step) → run limit d n s w (record { move = m; place = p } ∷ xs) ≡ before done (run limit d (suc n) s′ w′ xs)
+    → (xs : List Step) → run limit d n s w (record { move = m; place = p } ∷ xs) ≡ prepend done (run limit d (suc n) s′ w′ xs)
 unfolding run
 steps-by limit d n s {w} {p} {t} a u m {done} {s′} {w′} h xs =
     rw (
@@ -66,20 +69,20 @@ module _ (limit : ℕ) (d : Domain) where
   -- A derivation runs, to its plan and its last state, and its list is within the limit.
   pub derivation-runs : length (d .actions) ≤ 255 → {n : ℕ} {s last : State} {w : List Waiting} {xs : List Step} {plan : List ℕ}
       → Derivation limit d n s w xs plan last → (length w ≤ limit) × (run limit d n s w xs ≡ accepted plan last)
-  unfolding run ended before moveOf
+  unfolding run ended prepend moveOf
   derivation-runs b base = (omega arith, refl)
   derivation-runs b (satisfaction {n} {s} {xs} h a u f r) =
-      (h, steps-by limit d n s a u 0 (moved-release limit d n s a f) xs ∙ ap (before []) (derivation-runs b r .1))
+      (h, steps-by limit d n s a u 0 (moved-release limit d n s a f) xs ∙ ap (prepend []) (derivation-runs b r .1))
   derivation-runs b (application {n} {s} {xs} {k} h a u c f g r) = (
     h,
     steps-by limit d n s a u (suc k) (rw (reads-action d k (at-lt c)) (moved-action limit d n s a c f g)) xs
-        ∙ ap (before (suc k ∷ [])) (derivation-runs b r .1),
+        ∙ ap (prepend (suc k ∷ [])) (derivation-runs b r .1),
   )
   derivation-runs b (decomposition {n} {s} {xs} {k} h a u c f g r) =
       let i = derivation-runs b r in (
         h,
         steps-by limit d n s a u (firstMethod + k) (rw (reads-method d k b (at-lt c)) (moved-method limit d n s a c f g (i .0))) xs
-            ∙ ap (before []) (i .1),
+            ∙ ap (prepend []) (i .1),
       )
 
   -- A taken step, put before a derivation of what is left.
@@ -119,3 +122,18 @@ module _ (limit : ℕ) (d : Domain) where
       subst (λ (p : List ℕ). Derivation limit d n s w (x ∷ xs) p last) (sym (f .whole))
       (derives-by n s w l (t .inside) (t .is-free) (reads d (x .move)) (t .by)
       (run-derives (suc n) (f .next) (f .list) xs (f .rest) last (moved-within n s w l (t .by)) (f .goes-on)))
+
+-- Accepted steps are a derivation, and back.
+pub accepted-is-derivation : AcceptedIsDerivation
+accepted-is-derivation shop e limit s w xs plan last = (
+  (λ a. run-derives limit (domain shop) 0 s w xs plan last (a .within) (a .runs)),
+  (λ h. let r = derivation-runs limit (domain shop) (shop-actions shop e) h in record { within = r .0; runs = r .1 }),
+)
+
+-- A plan has at most one action for each step.
+pub plan-short : {limit n : ℕ} {d : Domain} {s last : State} {w : List Waiting} {xs : List Step} {plan : List ℕ}
+    → Derivation limit d n s w xs plan last → length plan ≤ length xs
+plan-short base = omega arith
+plan-short (satisfaction h a u f r) = omega (arith, plan-short r)
+plan-short (application h a u c f g r) = omega (arith, plan-short r)
+plan-short (decomposition h a u c f g r) = omega (arith, plan-short r)

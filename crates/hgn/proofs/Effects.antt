@@ -2,7 +2,7 @@
 use Prim.Native.Nat.{ℕ, _<_}
 use mathlib.Core.Path.{_≡_, refl, sym, ap, _∙_}
 use mathlib.Core.Bool.{Bool, true, false, cond, _&&_, _||_, or-true, Bool·beq, false≢true}
-use mathlib.Core.Logic.{_↔_, _⊎_, inl, inr, ⊎-elim}
+use mathlib.Core.Logic.{_↔_, inl, inr, ⊎-elim}
 use mathlib.Core.List.{List, [], _∷_, List·Memᴰ, List·Memᴰ·head, List·Memᴰ·tail}
 use native.Mathlib.Omega.{arith}
 use lib.Dec.{eqb}
@@ -12,7 +12,7 @@ use borrow.Author.Tests.{eqb-true, eqb-false, eq-eqb}
 use Rattle.hgn.specs.Lists.{any, among}
 use Rattle.hgn.specs.Meaning.{Literal}
 use Rattle.hgn.specs.State.{State, assign, atomsOf, γ, byRows}
-use Rattle.hgn.specs.Demands.{EffectsAreGamma, Effect, In, InEffect}
+use Rattle.hgn.specs.Demands.{EffectsAreGamma, In, InEffect}
 use Rattle.hgn.proofs.Tests.{beq-true, eq-beq}
 use Rattle.hgn.proofs.Checked.{Rising, effects-rise}
 

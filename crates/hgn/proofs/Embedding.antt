@@ -1,20 +1,20 @@
 -- A step is the same on a network that is renamed and stands in front of other goals: `map f w ++ v` in place of `w`.
 -- Two uses: the first order's goals in front of the second's (no renaming), and the second order's own run under the join's names
 -- (nothing behind it). Assumes nothing.
-use Prim.Native.Nat.{ℕ, zero, suc, _+_, _<_, _≤_}
+use Prim.Native.Nat.{ℕ, zero, suc, _+_, _<_}
 use native.Mathlib.Omega.{arith}
-use native.Mathlib.Nat.{not-suc-le-zero, le-of-suc-le-suc, add-assoc}
-use mathlib.Core.Path.{_≡_, refl, sym, ap, ap₂, _∙_, subst}
+use native.Mathlib.Nat.{not-suc-le-zero, le-of-suc-le-suc}
+use mathlib.Core.Path.{_≡_, refl, sym, ap, ap₂, _∙_}
 use mathlib.Core.Bool.{Bool, true, false, not, _||_, or-false}
 use mathlib.Core.List.{List, [], _∷_, _++_, map, map-append, append-assoc, List·Memᴰ, List·Memᴰ·head, List·Memᴰ·tail}
 use mathlib.Core.Option.{some}
 use lib.Dec.{leb, ltb}
-use lib.ListN.{length, getD, take, drop, length-append, length-map, List·getD-map, List·getD-append, List·getD-eq-default}
+use lib.ListN.{length, getD, take, drop, length-append, length-map, List·getD-map, List·getD-append}
 use lib.Seq.{take-append-le, drop-append-le}
 use borrow.Author.Tests.{lt-ltb, le-leb, lt-leb, leb-true, leb-false}
 use Rattle.hgn.specs.Lists.{any}
-use Rattle.hgn.specs.Meaning.{Node, Domain, goalOf, networkOf, Formula}
-use Rattle.hgn.specs.State.{State, γ, allHold, formulaHolds, relevant}
+use Rattle.hgn.specs.Meaning.{Node, Domain, goalOf, networkOf}
+use Rattle.hgn.specs.State.{State, allHold, formulaHolds, relevant}
 use Rattle.hgn.specs.Network.{Waiting, step, comesAfter, free, anyFree, enter, goalAt, noGoal, released, decomposed}
 use Rattle.hgn.specs.Run.{Step, Move, release, act, use-method, unknown, moveOf, actionAt, methodAt, Stepped, refused, taken, ask, askFree, moved, stepped}
 use Rattle.hgn.proofs.Tests.{any-append, at-mem, at-of-lt}

@@ -1,18 +1,17 @@
 -- While a goal of the first order, or one brought in below it, waits, none of the second order's goals is free; so a step on the
 -- join is a step on the first order's part with the second's goals carried along. Assumes nothing.
-use Prim.Native.Nat.{ℕ, zero, suc, _+_, _≤_, _<_}
+use Prim.Native.Nat.{ℕ, zero, suc, _≤_, _<_}
 use native.Mathlib.Omega.{arith}
-use native.Mathlib.Nat.{le-of-suc-le-suc, not-suc-le-zero}
 use mathlib.Core.Path.{_≡_, refl, sym, ap, _∙_, subst}
-use mathlib.Core.Bool.{Bool, true, false, not}
-use mathlib.Core.Logic.{_⊎_, inl, inr, ⊎-elim}
-use mathlib.Core.List.{List, [], _∷_, _++_, map, map-id, List·Memᴰ, List·Memᴰ·head, List·Memᴰ·tail, Memᴰ·append-left, Memᴰ·append-right, List·Memᴰ·append-cases}
+use mathlib.Core.Bool.{false}
+use mathlib.Core.Logic.{⊎-elim}
+use mathlib.Core.List.{List, [], _∷_, _++_, map-id, List·Memᴰ, List·Memᴰ·head, List·Memᴰ·tail, Memᴰ·append-left, Memᴰ·append-right}
 use mathlib.Core.Option.{Option, none, some, Option·none-ne-some}
-use lib.ListN.{length, take, drop}
-use Rattle.hgn.specs.Lists.{At, here, there}
+use lib.ListN.{take, drop}
+use Rattle.hgn.specs.Lists.{At, there}
 use Rattle.hgn.specs.Meaning.{Domain, Node}
 use Rattle.hgn.specs.State.{State}
-use Rattle.hgn.specs.Network.{Origin, order, step, Name, Waiting, comesAfter, free, enter, goalAt, noGoal, released, decomposed}
+use Rattle.hgn.specs.Network.{order, step, Name, Waiting, comesAfter, free, enter, goalAt, noGoal, released, decomposed}
 use Rattle.hgn.specs.Run.{Step, Move, stepped, taken}
 use Rattle.hgn.specs.Definition1.{Listed, by-row, by-method}
 use Rattle.hgn.proofs.Tests.{at-mem, at-of-lt, comes-after-iff, free-iff-none-listed, not-true-false}
@@ -22,10 +21,10 @@ use Rattle.hgn.proofs.Embedding.{Embeds}
 use Rattle.hgn.proofs.Waiting.{stays, inserted-old}
 
 -- A goal of the first part, with those that wait after it: one of the `g` goals of the first order, which comes only after such
--- goals, or a goal brought in whose owner waits after it.
+-- goals, or a goal brought in whose parent waits after it.
 pub data FrontGoal (g : ℕ) (q : Waiting) (rest : List Waiting) : Type 0 where
   of-order : q .name .origin ≡ order → q .name .number < g → ((k : ℕ) → List·Memᴰ k (q .after) → k < g) → FrontGoal g q rest
-  brought : {k : ℕ} {r : Waiting} → q .name .origin ≡ step k → List·Memᴰ r rest → q .owner ≡ some (r .name) → FrontGoal g q rest
+  brought : {k : ℕ} {r : Waiting} → q .name .origin ≡ step k → List·Memᴰ r rest → q .parent ≡ some (r .name) → FrontGoal g q rest
 
 abbrev pub Front : ℕ → List Waiting → Type 0
 Front g [] = Unit {0}
@@ -35,7 +34,7 @@ Front g (q ∷ rest) = FrontGoal g q rest × Front g rest
 pub record BackGoal (g : ℕ) (q : Waiting) : Type 0 where
   pub origin : q .name .origin ≡ order
   pub number : g ≤ q .name .number
-  pub owner : q .owner ≡ none
+  pub parent : q .parent ≡ none
   pub afters : (k : ℕ) → k < g → List·Memᴰ k (q .after)
 
 abbrev pub Back : ℕ → List Waiting → Type 0
@@ -69,7 +68,7 @@ front-apart g w v fr bk q p m k = not-true-false (comesAfter q p) (λ e. none-li
   where
     none-listed : Listed p q → ⊥
     none-listed (by-row o a) = omega (arith, front-below g w q fr m .bound (sym o ∙ bk p k .origin) (p .name .number) a, bk p k .number)
-    none-listed (by-method o) = Option·none-ne-some (q .name) (sym (bk p k .owner) ∙ o)
+    none-listed (by-method o) = Option·none-ne-some (q .name) (sym (bk p k .parent) ∙ o)
 
 -- No goal of the second part is free while the first is not empty.
 pub front-blocks : (g : ℕ) (q : Waiting) (rest v : List Waiting) → Front g (q ∷ rest) → Back g v → (p : Waiting) → List·Memᴰ p v
@@ -91,8 +90,8 @@ front-embeds g n q rest v fr bk = record {
   blocked = λ p m. subst (λ (l : List Waiting). free (l ++ v) p ≡ false) (sym (map-id (q ∷ rest))) (front-blocks g q rest v fr bk p m);
 }
 
--- The first part stays such a part when a goal leaves that owns none of the others.
-front-released : (g : ℕ) (w : List Waiting) (p : ℕ) (t : Waiting) → At w p t → ((q : Waiting) → List·Memᴰ q w → q .owner ≡ some (t .name) → ⊥)
+-- The first part stays such a part when a goal leaves that is the parent of none of the others.
+front-released : (g : ℕ) (w : List Waiting) (p : ℕ) (t : Waiting) → At w p t → ((q : Waiting) → List·Memᴰ q w → q .parent ≡ some (t .name) → ⊥)
     → Front g w → Front g (released w p)
 unfolding released
 front-released g (q ∷ w) zero t a h (f, u) = u
@@ -106,7 +105,7 @@ front-released g (q ∷ w) (suc p) t (there a) h (f, u) = (keeps f, front-releas
         (λ k. brought o k e)
         (stays a m)
 
--- And when goals enter before their owner.
+-- And when goals enter before their parent.
 front-entered : (g n i : ℕ) (t : Waiting) (nodes : List Node) (w : List Waiting) → List·Memᴰ t w → Front g w
     → Front g (enter (step n) (some (t .name)) i nodes ++ w)
 unfolding enter

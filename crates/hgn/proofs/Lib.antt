@@ -1,7 +1,10 @@
 -- What the definitions of `specs/` imply, from the tests up to the demands. `Demands` gathers it.
 pub mod Tests
 pub mod Checked
+pub mod Joins
+pub mod Costs
 pub mod Effects
+pub mod Numbers
 pub mod Steps
 pub mod Moves
 pub mod Waiting

@@ -1,5 +1,5 @@
--- On every network that a run reaches from checked sheets, 000's order is a strict partial order and 000's two operations are
--- document 01's. Assumes nothing.
+-- On every network that a run reaches from checked sheets and their joins, 000's order is a strict partial order and 000's two
+-- operations are document 01's. Assumes nothing.
 use Prim.Native.Nat.{ℕ}
 use mathlib.Core.Path.{_≡_, sym, ap, _∙_, subst}
 use mathlib.Core.Logic.{_↔_, _⊎_, inl, inr, ⊎-elim, _≢_}
@@ -11,7 +11,7 @@ use Rattle.hgn.specs.Network.{Waiting, step, enter, noGoal, released, de
 use Rattle.hgn.specs.Definition1.{Listed, Precedes, listed, through, Unconstrained}
 use Rattle.hgn.specs.Demands.{NetworksAreOrdered, OperationsAre000s, Pair, entering}
 use Rattle.hgn.proofs.Tests.{at-mem, at-getD, last-listed, free-iff-unconstrained}
-use Rattle.hgn.proofs.Reached.{Sound, Apart, Entered, entered, same-goal, released-other, strangers, owner-outside, sound}
+use Rattle.hgn.proofs.Reached.{Sound, Apart, Entered, entered, same-goal, released-other, strangers, parent-outside, sound}
 use Rattle.hgn.proofs.Waiting.{released-mem, stays, inserted, inserted-cases, inserted-old, inserted-new}
 
 -- A chain stays one where more goals wait.
@@ -45,9 +45,9 @@ never-round (q ∷ v) h t c = never-round v (h .2) t (restrict q (λ x m. List·
 
 -- A goal is free exactly when it is unconstrained, and no goal precedes itself.
 pub networks-are-ordered : NetworksAreOrdered
-networks-are-ordered shop sheet e n s w r = record {
+networks-are-ordered shop o f limit n s₀ s w r = record {
   free-iff = free-iff-unconstrained w;
-  irreflexive = never-round w (sound shop sheet e r .apart);
+  irreflexive = never-round w (sound f r .apart);
 }
 
 -- The nodes that enter at the goal of place `p` carry its name.
@@ -77,8 +77,8 @@ module _ {n : ℕ} {w : List Waiting} (h : Sound n w) where
       → List·Memᴰ a (decomposed w p n (networkOf m)) ↔ (List·Memᴰ a w ⊎ List·Memᴰ a (entering n t m))
   method-nodes p t a m k = rw (decomposed-is n (networkOf m) k) (inserted-cases (entering n t m) k, ⊎-elim (inserted-old (entering n t m) k) (inserted-new w p))
 
-  -- ≺′ = ≺ ∪ ≺_m ∪ {(t_m, t)}, of the listed pairs: a new node is listed before new ones by row and before `t`, and no old one is
-  -- listed before a new one.
+  -- ≺′ = ≺ ∪ ≺_m ∪ {(t_m, t) | t_m ∈ T_m}, of the listed pairs: a new node is listed before new ones by row and before `t`, and no
+  -- old one is listed before a new one.
   method-pairs : (p : ℕ) (t a b : Waiting) (m : Method) → At w p t
       → Pair (decomposed w p n (networkOf m)) a b
       ↔ (Pair w a b
@@ -97,12 +97,12 @@ module _ {n : ℕ} {w : List Waiting} (h : Sound n w) where
 
       both : New a → New b → Listed a b → List·Memᴰ (a .name .number) (b .after)
       both i j (Listed.by-row o l) = l
-      both i j (Listed.by-method o) = absurd (owner-outside h (at-mem k) (b .name) (sym (r a i .its-owner) ∙ o) (r b j .its-origin))
+      both i j (Listed.by-method o) = absurd (parent-outside h (at-mem k) (b .name) (sym (r a i .its-parent) ∙ o) (r b j .its-origin))
 
       to : List·Memᴰ a w ⊎ New a → List·Memᴰ b w ⊎ New b → Listed a b → Pair w a b ⊎ ((New a × New b × List·Memᴰ (a .name .number) (b .after)) ⊎ (New a × (b ≡ t)))
       to (inl i) (inl j) l = inl (i, j, l)
       to (inl i) (inr j) l = absurd (strangers (networkOf m) h a b i j .not-after l)
-      to (inr i) (inl j) l = inr (inr (i, same-goal w (h .apart) j (at-mem k) (strangers (networkOf m) h b a j i .before-owner l)))
+      to (inr i) (inl j) l = inr (inr (i, same-goal w (h .apart) j (at-mem k) (strangers (networkOf m) h b a j i .before-parent l)))
       to (inr i) (inr j) l = inr (inl (i, j, both i j l))
 
       from : Pair w a b ⊎ ((New a × New b × List·Memᴰ (a .name .number) (b .after)) ⊎ (New a × (b ≡ t))) → Pair (decomposed w p n (networkOf m)) a b
@@ -111,12 +111,12 @@ module _ {n : ℕ} {w : List Waiting} (h : Sound n w) where
       from (inr (inr q)) = (
         nodes a .1 (inr (q .0)),
         nodes b .1 (inl (Memᴰ·cast (q .1) (at-mem k))),
-        Listed.by-method (r a (q .0) .its-owner ∙ ap (λ (x : Waiting). some (x .name)) (sym (q .1))),
+        Listed.by-method (r a (q .0) .its-parent ∙ ap (λ (x : Waiting). some (x .name)) (sym (q .1))),
       )
 
 -- A release and a method change nodes and order as 000 says.
 pub operations-are-000s : OperationsAre000s
-operations-are-000s shop sheet e n s w r = let h = sound shop sheet e r in record {
+operations-are-000s shop o f limit n s₀ s w r = let h = sound f r in record {
   release-nodes = release-nodes h;
   release-order = release-order h;
   method-nodes = λ p t a m k i. method-nodes h p t a m k;

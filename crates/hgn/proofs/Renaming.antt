@@ -1,36 +1,24 @@
 -- The second order under the join's names: its goals raised by `g`, its steps counted from `c`. The run is the same.
 -- Assumes nothing.
-use Prim.Native.Nat.{ℕ, zero, suc, _+_, _≤_, _<_}
+use Prim.Native.Nat.{ℕ, suc, _+_}
 use native.Mathlib.Omega.{arith}
 use native.Mathlib.Nat.{add-zero, add-suc}
-use mathlib.Core.Path.{_≡_, refl, sym, ap, ap₂, _∙_, subst}
+use mathlib.Core.Path.{_≡_, refl, sym, ap, ap₂, _∙_}
 use mathlib.Core.Bool.{Bool, true, false, _&&_, _||_}
-use mathlib.Core.Logic.{⊎-elim}
-use mathlib.Core.List.{List, [], _∷_, _++_, map, append-nil, List·Memᴰ, List·Memᴰ·head, List·Memᴰ·tail, Memᴰ·append-left, Memᴰ·append-right, List·Memᴰ·append-cases, List·Memᴰ·eq-of-singleton}
+use mathlib.Core.List.{List, [], _∷_, _++_, map, append-nil}
 use mathlib.Core.Option.{Option, none, some, Option·map}
 use lib.Dec.{eqb, ltb}
 use lib.ListN.{length, length-map}
-use borrow.Author.Tests.{eqb-true, eqb-false, eq-eqb, ne-eqb, ltb-true, ltb-false, le-ltb}
-use Rattle.hgn.specs.Lists.{any, among, below}
-use Rattle.hgn.specs.Meaning.{Domain, Node, Order}
+use borrow.Author.Tests.{eqb-true, eqb-false, eq-eqb, ne-eqb, ltb-true}
+use Rattle.hgn.specs.Lists.{among, below}
+use Rattle.hgn.specs.Meaning.{Domain, Node}
 use Rattle.hgn.specs.State.{State}
-use Rattle.hgn.specs.Network.{Origin, order, step, Name, Waiting, sameOrigin, sameName, isOwner, comesAfter, enter}
-use Rattle.hgn.specs.Run.{Step, Stepped, refused, taken, ask, stepped, Outcome, stopped, accepted, before, ended, run}
+use Rattle.hgn.specs.Network.{Origin, order, step, Name, Waiting, sameOrigin, sameName, isParent, comesAfter, enter}
+use Rattle.hgn.specs.Run.{Step, Stepped, refused, taken, ask, stepped, Outcome, stopped, accepted, prepend, ended, run}
 use Rattle.hgn.specs.Join.{raised}
-use Rattle.hgn.proofs.Tests.{any-append}
-use Rattle.hgn.proofs.Checked.{below-lt}
+use Rattle.hgn.proofs.Tests.{any-append, below-lt}
 use Rattle.hgn.proofs.Embedding.{Embeds, carried, step-carried, any-map, any-cong, any-none}
 use Rattle.hgn.proofs.Runs.{resumed, run-cons, stopped≢accepted}
-
--- The numbers below `n`.
-pub lt-below : (n k : ℕ) → k < n → List·Memᴰ k (below n)
-unfolding below
-lt-below zero k h = absurd (omega arith)
-lt-below (suc n) k h = go (lt-below n k) (ltb k n) refl
-  where
-    go : (k < n → List·Memᴰ k (below n)) → (b : Bool) → ltb k n ≡ b → List·Memᴰ k (below n ++ (n ∷ []))
-    go ih true e = Memᴰ·append-left (n ∷ []) (ih (ltb-true k n e))
-    go ih false e = Memᴰ·append-right (below n) (List·Memᴰ·head (omega (arith, ltb-false k n e)))
 
 eqb-raised : (g i j : ℕ) → eqb (g + i) (g + j) ≡ eqb i j
 eqb-raised g i j = go (eqb i j) refl
@@ -60,10 +48,10 @@ unfolding later
 later-accepted c (stopped number place) plan s e = absurd (stopped≢accepted e)
 later-accepted c (accepted plan′ s′) plan s e = e
 
-before-later : (c : ℕ) (done : List ℕ) (o : Outcome) → before done (later c o) ≡ later c (before done o)
-unfolding before later
-before-later c done (stopped number place) = refl
-before-later c done (accepted plan s) = refl
+prepend-later : (c : ℕ) (done : List ℕ) (o : Outcome) → prepend done (later c o) ≡ later c (prepend done o)
+unfolding prepend later
+prepend-later c done (stopped number place) = refl
+prepend-later c done (accepted plan s) = refl
 
 module _ (g c : ℕ) where
   abbrev renamed : Origin → ℕ → Name
@@ -78,7 +66,7 @@ module _ (g c : ℕ) where
   abbrev pub rename : Waiting → Waiting
   rename q = record {
     name = renamed (q .name .origin) (q .name .number);
-    owner = Option·map (λ n. renamed (n .origin) (n .number)) (q .owner);
+    parent = Option·map (λ n. renamed (n .origin) (n .number)) (q .parent);
     after = renameAfter (q .name .origin) (q .after);
     formula = q .formula;
   }
@@ -91,11 +79,11 @@ module _ (g c : ℕ) where
   same-renamed (step m) order i j = refl
   same-renamed (step m) (step n) i j = ap (λ (t : Bool). t && eqb i j) (eqb-raised c m n)
 
-  owner-renamed : (a : Name) (o : Option Name)
-      → isOwner (renamed (a .origin) (a .number)) (Option·map (λ n. renamed (n .origin) (n .number)) o) ≡ isOwner a o
-  unfolding isOwner sameName
-  owner-renamed a none = refl
-  owner-renamed a (some b) = same-renamed (a .origin) (b .origin) (a .number) (b .number)
+  parent-renamed : (a : Name) (o : Option Name)
+      → isParent (renamed (a .origin) (a .number)) (Option·map (λ n. renamed (n .origin) (n .number)) o) ≡ isParent a o
+  unfolding isParent sameName
+  parent-renamed a none = refl
+  parent-renamed a (some b) = same-renamed (a .origin) (b .origin) (a .number) (b .number)
 
   sibling-renamed : (a b : Origin) (j : ℕ) (ns : List ℕ)
       → (sameOrigin (renamed a 0 .origin) (renamed b j .origin) && among (renamed b j .number) (renameAfter a ns)) ≡ (sameOrigin a b && among j ns)
@@ -116,7 +104,7 @@ module _ (g c : ℕ) where
       ap₂ (λ (a b : Bool). a || b)
       (ap (λ (o : Origin). sameOrigin o (rename p .name .origin) && among (rename p .name .number) (rename q .after)) (origin-renamed (q .name .origin) (q .name .number))
       ∙ sibling-renamed (q .name .origin) (p .name .origin) (p .name .number) (q .after))
-      (owner-renamed (q .name) (p .owner))
+      (parent-renamed (q .name) (p .parent))
 
   enter-renamed : (n i : ℕ) (a : Name) (nodes : List Node)
       → map rename (enter (step n) (some a) i nodes) ≡ enter (step (c + n)) (some (renamed (a .origin) (a .number))) i nodes
@@ -171,6 +159,6 @@ module _ (g c : ℕ) where
           → (r : Stepped) → resumed limit d (c + n) xs (carried rename [] r) ≡ later c (resumed limit d n xs r)
       resumed-renamed ih (refused number) = refl
       resumed-renamed ih (taken done s′ w′) =
-          ap (before done)
+          ap (prepend done)
           (ap₂ (λ (k : ℕ) (l : List Waiting). run limit d k s′ l xs) (sym (add-suc c n)) (append-nil (map rename w′)) ∙ ih s′ w′)
-          ∙ before-later c done (run limit d (suc n) s′ w′ xs)
+          ∙ prepend-later c done (run limit d (suc n) s′ w′ xs)

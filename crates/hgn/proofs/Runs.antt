@@ -1,21 +1,19 @@
 -- A run, one step at a time. Assumes nothing.
-use Prim.Native.Nat.{ℕ, zero, suc, _+_, _≤_, _<_}
+use Prim.Native.Nat.{ℕ, suc}
 use native.Mathlib.Omega.{arith}
 use native.Mathlib.Nat.{not-suc-le-zero}
-use mathlib.Core.Path.{_≡_, refl, sym, ap, _∙_, subst}
-use mathlib.Core.Bool.{Bool, true, false}
-use mathlib.Core.List.{List, [], _∷_, _++_, cons≢nil}
-use lib.ListN.{length}
+use mathlib.Core.Path.{_≡_, refl, sym, ap, _∙_}
+use mathlib.Core.List.{List, [], _∷_, _++_}
 use Rattle.hgn.specs.Meaning.{Domain}
 use Rattle.hgn.specs.State.{State}
 use Rattle.hgn.specs.Network.{Waiting}
-use Rattle.hgn.specs.Run.{Step, Stepped, refused, taken, stepped, Outcome, stopped, accepted, before, ended, run}
+use Rattle.hgn.specs.Run.{Step, Stepped, refused, taken, stepped, Outcome, stopped, accepted, prepend, ended, run}
 use Rattle.hgn.proofs.Steps.{took}
 
 -- The run goes on after a step.
 unfoldable pub resumed : ℕ → Domain → ℕ → List Step → Stepped → Outcome
 resumed limit d n xs (refused number) = stopped number n
-resumed limit d n xs (taken done s w) = before done (run limit d (suc n) s w xs)
+resumed limit d n xs (taken done s w) = prepend done (run limit d (suc n) s w xs)
 
 pub run-cons : (limit : ℕ) (d : Domain) (n : ℕ) (s : State) (w : List Waiting) (x : Step) (xs : List Step)
     → run limit d n s w (x ∷ xs) ≡ resumed limit d n xs (stepped limit d n s w x)
@@ -46,11 +44,11 @@ pub record Resumes (limit : ℕ) (d : Domain) (n : ℕ) (s : State) (w : List Wa
   pub goes-on : run limit d (suc n) next list xs ≡ accepted rest last
   pub whole : plan ≡ done ++ rest
 
-before-accepted : (done : List ℕ) (o : Outcome) (plan : List ℕ) (last : State) → before done o ≡ accepted plan last
+prepend-accepted : (done : List ℕ) (o : Outcome) (plan : List ℕ) (last : State) → prepend done o ≡ accepted plan last
     → (rest : List ℕ) × (o ≡ accepted rest last) × (plan ≡ done ++ rest)
-unfolding before
-before-accepted done (stopped number place) plan last e = absurd (stopped≢accepted e)
-before-accepted done (accepted rest s) plan last e = (rest, ap (accepted rest) (accepted-state e), sym (accepted-plan e))
+unfolding prepend
+prepend-accepted done (stopped number place) plan last e = absurd (stopped≢accepted e)
+prepend-accepted done (accepted rest s) plan last e = (rest, ap (accepted rest) (accepted-state e), sym (accepted-plan e))
 
 pub resumes : (limit : ℕ) (d : Domain) (n : ℕ) (s : State) (w : List Waiting) (x : Step) (xs : List Step) (plan : List ℕ) (last : State)
     → run limit d n s w (x ∷ xs) ≡ accepted plan last → Resumes limit d n s w x xs plan last
@@ -60,15 +58,15 @@ resumes limit d n s w x xs plan last e = go (stepped limit d n s w x) refl
     go : (r : Stepped) → stepped limit d n s w x ≡ r → Resumes limit d n s w x xs plan last
     go (refused number) q = absurd (stopped≢accepted (sym (ap (resumed limit d n xs) q) ∙ sym (run-cons limit d n s w x xs) ∙ e))
     go (taken done next list) q =
-        let r = before-accepted done (run limit d (suc n) next list xs) plan last (sym (ap (resumed limit d n xs) q) ∙ sym (run-cons limit d n s w x xs) ∙ e) in
+        let r = prepend-accepted done (run limit d (suc n) next list xs) plan last (sym (ap (resumed limit d n xs) q) ∙ sym (run-cons limit d n s w x xs) ∙ e) in
         record { done = done; next = next; list = list; rest = r .0; first = q; goes-on = r .1; whole = r .2 }
 
 -- And back.
 pub resumed-accepts : (limit : ℕ) (d : Domain) (n : ℕ) (s : State) (w : List Waiting) (x : Step) (xs : List Step) (done rest : List ℕ) (next last : State) (list : List Waiting)
     → stepped limit d n s w x ≡ taken done next list → run limit d (suc n) next list xs ≡ accepted rest last
     → run limit d n s w (x ∷ xs) ≡ accepted (done ++ rest) last
-unfolding resumed before
-resumed-accepts limit d n s w x xs done rest next last list e q = run-cons limit d n s w x xs ∙ ap (resumed limit d n xs) e ∙ ap (before done) q
+unfolding resumed prepend
+resumed-accepts limit d n s w x xs done rest next last list e q = run-cons limit d n s w x xs ∙ ap (resumed limit d n xs) e ∙ ap (prepend done) q
 
 -- A run that is accepted without a step has nothing waiting.
 pub ended-empty : (n : ℕ) (s : State) (w : List Waiting) (plan : List ℕ) (last : State) → ended n s w ≡ accepted plan last → (w ≡ []) × (plan ≡ []) × (s ≡ last)

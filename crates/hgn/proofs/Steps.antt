@@ -2,16 +2,15 @@
 -- Assumes nothing.
 use Prim.Native.Nat.{ℕ, _<_, _≤_}
 use native.Mathlib.Omega.{arith}
-use mathlib.Core.Path.{_≡_, refl, sym, ap, _∙_, subst}
+use mathlib.Core.Path.{_≡_, refl, _∙_, subst}
 use mathlib.Core.Bool.{Bool, true, false}
 use mathlib.Core.List.{List, [], _∷_}
-use lib.Dec.{leb, ltb}
 use lib.ListN.{length}
 use borrow.Author.Tests.{ltb-true, lt-ltb, leb-true, le-leb}
 use Rattle.hgn.specs.Meaning.{Domain, goalOf, networkOf}
 use Rattle.hgn.specs.State.{State, γ, allHold, formulaHolds, relevant}
 use Rattle.hgn.specs.Network.{Waiting, free, anyFree, goalAt, noGoal, released, decomposed}
-use Rattle.hgn.specs.Run.{Step, Move, release, act, use-method, unknown, moveOf, actionAt, methodAt, Stepped, refused, taken, ask, askFree, moved, stepped}
+use Rattle.hgn.specs.Run.{Step, Move, release, act, use-method, unknown, moveOf, actionAt, methodAt, Stepped, taken, ask, askFree, moved, stepped}
 use Rattle.hgn.proofs.Tests.{true-any, at-of-lt, at-mem}
 
 -- The answers to a move's own questions at place `p`.

@@ -1,19 +1,20 @@
 -- What the tests of `specs/` say as propositions: each is true exactly when its proposition holds.
 -- Assumes nothing.
 use Prim.Native.Nat.{ℕ, zero, suc, _<_}
+use native.Mathlib.Omega.{arith}
 use native.Mathlib.Nat.{not-suc-le-zero, le-of-suc-le-suc}
-use mathlib.Core.Path.{_≡_, refl, sym, ap, ap₂, _∙_, subst}
+use mathlib.Core.Path.{_≡_, refl, sym, ap, _∙_, subst}
 use mathlib.Core.Bool.{Bool, true, false, not, _&&_, _||_, Bool·beq, true≢false, false≢true}
 use mathlib.Core.Logic.{_↔_, _⊎_, inl, inr, ⊎-elim}
-use mathlib.Core.List.{List, [], _∷_, _++_, List·Memᴰ, List·Memᴰ·head, List·Memᴰ·tail, Memᴰ·cast, Memᴰ·append-left, Memᴰ·append-right, List·Memᴰ·append-cases, flatten}
-use mathlib.Core.Option.{Option, none, some, Option·some-injective, Option·none-ne-some}
+use mathlib.Core.List.{List, [], _∷_, _++_, List·Memᴰ, List·Memᴰ·head, List·Memᴰ·tail, List·Memᴰ·not-nil, List·Memᴰ·eq-of-singleton, Memᴰ·cast, Memᴰ·append-left, Memᴰ·append-right, List·Memᴰ·append-cases, flatten}
+use mathlib.Core.Option.{Option, none, some}
 use lib.Dec.{eqb, ltb}
 use lib.ListN.{length, getD}
-use borrow.Author.Tests.{eqb-true, eq-eqb, not-true, ltb-true, lt-ltb}
-use Rattle.hgn.specs.Lists.{any, all, among, At, here, there}
+use borrow.Author.Tests.{eqb-true, eq-eqb, not-true, ltb-true, ltb-false}
+use Rattle.hgn.specs.Lists.{any, all, among, below, At, here, there}
 use Rattle.hgn.specs.Meaning.{Literal, Formula}
 use Rattle.hgn.specs.State.{State, literalHolds, allHold, formulaHolds, contains, relevant, opposite}
-use Rattle.hgn.specs.Network.{Origin, order, step, Name, Waiting, sameOrigin, sameName, isOwner, comesAfter, free}
+use Rattle.hgn.specs.Network.{Origin, order, step, Name, Waiting, sameOrigin, sameName, isParent, comesAfter, free}
 use Rattle.hgn.specs.Definition1.{Entails, EntailsAll, Satisfies, LiteralOf, Relevant, Listed, by-row, by-method, Precedes, listed, through, Unconstrained}
 
 -- Connectives.
@@ -115,6 +116,23 @@ pub true-among : (n : ℕ) (ns : List ℕ) → List·Memᴰ n ns → among n ns 
 unfolding among
 true-among n ns m = true-any (eqb n) ns m (eq-eqb n n refl)
 
+-- The numbers below `n`.
+pub below-lt : (n k : ℕ) → List·Memᴰ k (below n) → k < n
+unfolding below
+below-lt zero k m = absurd (List·Memᴰ·not-nil m)
+below-lt (suc n) k m =
+    ⊎-elim (λ m. let h = below-lt n k m in omega arith) (λ m. let e = List·Memᴰ·eq-of-singleton m in omega arith)
+    (List·Memᴰ·append-cases (below n) m)
+
+pub lt-below : (n k : ℕ) → k < n → List·Memᴰ k (below n)
+unfolding below
+lt-below zero k h = absurd (omega arith)
+lt-below (suc n) k h = go (lt-below n k) (ltb k n) refl
+  where
+    go : (k < n → List·Memᴰ k (below n)) → (b : Bool) → ltb k n ≡ b → List·Memᴰ k (below n ++ (n ∷ []))
+    go ih true e = Memᴰ·append-left (n ∷ []) (ih (ltb-true k n e))
+    go ih false e = Memᴰ·append-right (below n) (List·Memᴰ·head (omega (arith, ltb-false k n e)))
+
 module _ {A : Type 0} where
   pub at-mem : {xs : List A} {n : ℕ} {x : A} → At xs n x → List·Memᴰ x xs
   at-mem here = List·Memᴰ·head refl
@@ -202,18 +220,18 @@ relevant-iff effects f = (to, from)
         record {
           literal = r .0;
           wanted = flatten-literal f (r .0) .0 (r .1);
-          helps = contains-iff effects (r .0) .0 (r .2);
-          harmless = λ l w m. false-not-true (any opposed (flatten f)) (not-true _ (b .1)) (true-any opposed (flatten f) (flatten-literal f l .1 w) (contains-iff effects (opposite l) .1 m));
+          contained = contains-iff effects (r .0) .0 (r .2);
+          no-opposite = λ l w m. false-not-true (any opposed (flatten f)) (not-true _ (b .1)) (true-any opposed (flatten f) (flatten-literal f l .1 w) (contains-iff effects (opposite l) .1 m));
         }
 
     from : Relevant effects f → relevant effects f ≡ true
     from r =
         true-and (any (contains effects) (flatten f)) (not (any opposed (flatten f)))
-        (true-any (contains effects) (flatten f) (flatten-literal f (r .literal) .1 (r .wanted)) (contains-iff effects (r .literal) .1 (r .helps)))
+        (true-any (contains effects) (flatten f) (flatten-literal f (r .literal) .1 (r .wanted)) (contains-iff effects (r .literal) .1 (r .contained)))
         (ap not (not-true-false (any opposed (flatten f)) (λ e. none-opposed (any-true opposed (flatten f) e))))
       where
         none-opposed : (l : Literal) × List·Memᴰ l (flatten f) × (opposed l ≡ true) → ⊥
-        none-opposed q = r .harmless (q .0) (flatten-literal f (q .0) .0 (q .1)) (contains-iff effects (opposite (q .0)) .0 (q .2))
+        none-opposed q = r .no-opposite (q .0) (flatten-literal f (q .0) .0 (q .1)) (contains-iff effects (opposite (q .0)) .0 (q .2))
 
 -- Networks.
 
@@ -242,16 +260,16 @@ pub same-name-refl : (a : Name) → sameName a a ≡ true
 unfolding sameName
 same-name-refl a = true-and (sameOrigin (a .origin) (a .origin)) (eqb (a .number) (a .number)) (same-origin-refl (a .origin)) (eq-eqb (a .number) (a .number) refl)
 
-pub is-owner-iff : (a : Name) (o : Option Name) → (isOwner a o ≡ true) ↔ (o ≡ some a)
-unfolding isOwner
-is-owner-iff a o = (to o, from o)
+pub is-parent-iff : (a : Name) (o : Option Name) → (isParent a o ≡ true) ↔ (o ≡ some a)
+unfolding isParent
+is-parent-iff a o = (to o, from o)
   where
-    to : (o : Option Name) → isOwner a o ≡ true → o ≡ some a
+    to : (o : Option Name) → isParent a o ≡ true → o ≡ some a
     to none e = absurd (false≢true e)
     to (some b) e = ap {B = Option Name} some (sym (same-name-true a b e))
 
-    from : (o : Option Name) → o ≡ some a → isOwner a o ≡ true
-    from o e = subst (λ (o : Option Name). isOwner a o ≡ true) (sym e) (same-name-refl a)
+    from : (o : Option Name) → o ≡ some a → isParent a o ≡ true
+    from o e = subst (λ (o : Option Name). isParent a o ≡ true) (sym e) (same-name-refl a)
 
 pub comes-after-iff : (q p : Waiting) → (comesAfter q p ≡ true) ↔ Listed p q
 unfolding comesAfter
@@ -266,14 +284,14 @@ comes-after-iff q p = (to, from)
         (λ h.
         let r = and-true (sameOrigin (q .name .origin) (p .name .origin)) (among (p .name .number) (q .after)) h in
         by-row (sym (same-origin-true _ _ (r .0))) (among-true _ _ (r .1)))
-        (λ h. by-method (is-owner-iff (q .name) (p .owner) .0 h))
-        (or-true sibling (isOwner (q .name) (p .owner)) e)
+        (λ h. by-method (is-parent-iff (q .name) (p .parent) .0 h))
+        (or-true sibling (isParent (q .name) (p .parent)) e)
 
     from : Listed p q → comesAfter q p ≡ true
     from (by-row o m) =
-        true-or-left sibling (isOwner (q .name) (p .owner))
+        true-or-left sibling (isParent (q .name) (p .parent))
         (true-and (sameOrigin (q .name .origin) (p .name .origin)) (among (p .name .number) (q .after)) (eq-same-origin _ _ (sym o)) (true-among _ _ m))
-    from (by-method o) = true-or-right sibling (isOwner (q .name) (p .owner)) (is-owner-iff (q .name) (p .owner) .1 o)
+    from (by-method o) = true-or-right sibling (isParent (q .name) (p .parent)) (is-parent-iff (q .name) (p .parent) .1 o)
 
 -- Free: no waiting goal is listed before it.
 pub free-iff-none-listed : (w : List Waiting) (q : Waiting) → (free w q ≡ true) ↔ ((p : Waiting) → List·Memᴰ p w → ¬ Listed p q)

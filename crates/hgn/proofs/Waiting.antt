@@ -10,10 +10,10 @@ use Rattle.hgn.specs.Lists.{At, here, there}
 use Rattle.hgn.specs.Meaning.{Node}
 use Rattle.hgn.specs.Network.{Origin, Name, Waiting, enter, released}
 
-pub length-enter : (o : Origin) (owner : Option Name) (i : ℕ) (nodes : List Node) → length (enter o owner i nodes) ≡ length nodes
+pub length-enter : (o : Origin) (parent : Option Name) (i : ℕ) (nodes : List Node) → length (enter o parent i nodes) ≡ length nodes
 unfolding enter
-length-enter o owner i [] = refl
-length-enter o owner i (n ∷ ns) = ap suc (length-enter o owner (suc i) ns)
+length-enter o parent i [] = refl
+length-enter o parent i (n ∷ ns) = ap suc (length-enter o parent (suc i) ns)
 
 pub length-released : (w : List Waiting) (p : ℕ) → length (released w p) ≤ length w
 unfolding released

@@ -44,11 +44,11 @@ abbrev pub noGoalsOrder : List ℕ
 noGoalsOrder = 4 ∷ 0 ∷ 0 ∷ []
 
 -- One action, of cost 1, that makes atom 0 true; one goal, "0, or not 0 and 1".
-abbrev pub clampShop : List ℕ
-clampShop = 2 ∷ 1 ∷ 0 ∷ 2 ∷ 1 ∷ 5 ∷ 1 ∷ 0 ∷ []
+abbrev pub eitherShop : List ℕ
+eitherShop = 2 ∷ 1 ∷ 0 ∷ 2 ∷ 1 ∷ 5 ∷ 1 ∷ 0 ∷ []
 
-abbrev pub clampOrder : List ℕ
-clampOrder = 2 ∷ 1 ∷ 6 ∷ 7 ∷ 8 ∷ 9 ∷ 8 ∷ 10 ∷ 9 ∷ 0 ∷ 0 ∷ 0 ∷ 0 ∷ 0 ∷ 1 ∷ []
+abbrev pub eitherOrder : List ℕ
+eitherOrder = 2 ∷ 1 ∷ 6 ∷ 7 ∷ 8 ∷ 9 ∷ 8 ∷ 10 ∷ 9 ∷ 0 ∷ 0 ∷ 0 ∷ 0 ∷ 0 ∷ 1 ∷ []
 
 -- A refusal: no atoms, no plan, the room as it was lent.
 abbrev pub refusedCase : List ℕ → List ℕ → List ℕ → ℕ → ℕ → Case
@@ -100,7 +100,7 @@ cases =
     ∷ coreRefused (2 ∷ 256 ∷ 0 ∷ 0 ∷ 4 ∷ []) 28 1
     ∷ coreRefused (2 ∷ 256 ∷ 0 ∷ 0 ∷ 5 ∷ []) 25 1
     -- "0, or not 0 and 1": the action has a literal of the goal, and the opposite of another.
-    ∷ refusedCase clampShop clampOrder (1 ∷ 1 ∷ 0 ∷ []) 31 0
+    ∷ refusedCase eitherShop eitherOrder (1 ∷ 1 ∷ 0 ∷ []) 31 0
     ∷ []
 
 abbrev pub expected : Case → Replayed

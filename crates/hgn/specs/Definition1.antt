@@ -1,10 +1,9 @@
--- Definition 1 of source document 000, "Solutions to HGN Planning Problems", over propositions.
-use Prim.Native.Nat.{ℕ, zero, suc, _+_, _≤_}
+-- Definition 1 of source document 000, "Solutions to HGN Planning Problems", as types, not tests.
+use Prim.Native.Nat.{ℕ, suc, _+_, _≤_}
 use mathlib.Core.Path.{_≡_}
-use mathlib.Core.Bool.{Bool, false}
-use mathlib.Core.Logic.{_⊎_}
+use mathlib.Core.Bool.{false}
 use mathlib.Core.List.{List, [], _∷_, List·Memᴰ}
-use mathlib.Core.Option.{Option, some}
+use mathlib.Core.Option.{some}
 use lib.ListN.{length, getD}
 use Rattle.hgn.specs.Lists.{At}
 use Rattle.hgn.specs.Meaning.{Literal, Formula, Action, Method, Domain, goalOf, networkOf}
@@ -32,13 +31,13 @@ LiteralOf g l = (c : List Literal) × List·Memᴰ c g × List·Memᴰ l c
 pub record Relevant (effects : List Literal) (g : Formula) : Type 0 where
   pub literal : Literal
   pub wanted : LiteralOf g literal
-  pub helps : List·Memᴰ literal effects
-  pub harmless : (l : Literal) → LiteralOf g l → ¬ List·Memᴰ (opposite l) effects
+  pub contained : List·Memᴰ literal effects
+  pub no-opposite : (l : Literal) → LiteralOf g l → ¬ List·Memᴰ (opposite l) effects
 
--- The listed pairs: `p` before `q` by an 11 row of `q`'s network, or because `p` came with a method used at `q`.
+-- The listed pairs: `p` before `q` of one network, by an 11 row of `q` or by rule; or because `p` came with a method used at `q`.
 pub data Listed (p q : Waiting) : Type 0 where
   by-row : p .name .origin ≡ q .name .origin → List·Memᴰ (p .name .number) (q .after) → Listed p q
-  by-method : p .owner ≡ some (q .name) → Listed p q
+  by-method : p .parent ≡ some (q .name) → Listed p q
 
 -- The partial order ≺ of the goal network: the transitive closure of the listed pairs between waiting goals.
 pub data Precedes (w : List Waiting) : Waiting → Waiting → Type 0 where

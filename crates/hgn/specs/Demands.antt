@@ -1,22 +1,24 @@
--- What is proved of the definitions: each demand of document 00 as a named type, with the demand quoted above it.
--- A value of each stands in `proofs/`, gathered in `proofs/Demands.antt`.
-use Prim.Native.Nat.{ℕ, zero, suc, _+_, _≤_, _<_}
+-- What is proved of the definitions, each as a named type: the demands of document 00, and what document 01 and source
+-- document 000 say of networks, methods, effects and costs, quoted above each. A value of each stands in `proofs/`, gathered in
+-- `proofs/Demands.antt`. Demand 1 is what the definitions of the checks and of `replay` say themselves, and becomes a statement
+-- about calls when the calls land; demand 2's half on the search comes with the search.
+use Prim.Native.Nat.{ℕ, suc, _+_, _-_, _≤_, _<_}
 use mathlib.Core.Path.{_≡_}
-use mathlib.Core.Bool.{Bool, true, false}
+use mathlib.Core.Bool.{true, false}
 use mathlib.Core.Logic.{_↔_, _⊎_, _≢_}
-use mathlib.Core.List.{List, _++_, List·Memᴰ}
+use mathlib.Core.List.{List, [], _∷_, _++_, List·Memᴰ}
 use lib.ListN.{length, getD, take, drop}
 use mathlib.Core.Option.{some}
-use Rattle.hgn.specs.Lists.{At}
-use Rattle.hgn.specs.Meaning.{Literal, Action, Method, Domain, Order, networkOf}
+use Rattle.hgn.specs.Lists.{At, below}
+use Rattle.hgn.specs.Meaning.{Literal, Action, Method, Domain, Order, lastOf, goalOf, networkOf}
 use Rattle.hgn.specs.State.{State, mostAtoms, emptyState, γ, byRows}
 use Rattle.hgn.specs.Network.{Waiting, step, free, enter, goalsOf, released, decomposed, mostWaiting}
-use Rattle.hgn.specs.Run.{Step, Stepped, taken, stepped, startOf, costOf}
+use Rattle.hgn.specs.Run.{Step, taken, stepped, startOf, costOf}
 use Rattle.hgn.specs.Join.{Accepted, Cut, join}
 use Rattle.hgn.specs.Verdict.{passed}
 use Rattle.hgn.specs.Shop.{domain, checkShop}
 use Rattle.hgn.specs.Order.{order, checkOrder}
-use Rattle.hgn.specs.Trace.{steps, stepsOf, checkTrace}
+use Rattle.hgn.specs.Trace.{stepCount, mostSteps, stepsOf, checkTrace}
 use Rattle.hgn.specs.Replay.{Replayed, replay}
 use Rattle.hgn.specs.Definition1.{Derivation, Listed, Precedes, Unconstrained}
 use Rattle.hgn.specs.Cases.{MarkedCases}
@@ -31,21 +33,22 @@ Derives shop sheet trace plan last =
     Derivation mostWaiting (domain shop) 0 (startOf (order sheet)) (goalsOf (order sheet)) (stepsOf trace) plan last
 
 -- The sheets pass and the room holds as many words as the trace has steps.
-abbrev pub Ready : List ℕ → List ℕ → List ℕ → List ℕ → Type 0
-Ready shop sheet trace room = (checkTrace shop sheet trace ≡ passed) × (steps trace ≤ length room)
+abbrev pub InputsPass : List ℕ → List ℕ → List ℕ → List ℕ → Type 0
+InputsPass shop sheet trace room = (checkTrace shop sheet trace ≡ passed) × (stepCount trace ≤ length room)
 
 -- Accepted with this plan and this last state: the plan in the first words of the room, later words unchanged.
 pub record Accepts (shop trace room plan : List ℕ) (last : State) (r : Replayed) : Type 0 where
   pub number : r .answer .number ≡ 0
-  pub place : r .answer .place ≡ steps trace
+  pub place : r .answer .place ≡ stepCount trace
   pub state : r .answer .state ≡ last
   pub count : r .answer .count ≡ length plan
   pub cost : r .answer .cost ≡ costOf (domain shop) plan
   pub plan-words : take (length plan) (r .room) ≡ plan
   pub later-words : drop (length plan) (r .room) ≡ drop (length plan) room
+  pub room-length : length (r .room) ≡ length room
 
--- Not accepted: no state, no plan, no cost, the room unchanged.
-pub record LeavesAll (room : List ℕ) (r : Replayed) : Type 0 where
+-- Not accepted: the empty state, no plan, no cost, the room unchanged.
+pub record Refuses (room : List ℕ) (r : Replayed) : Type 0 where
   pub state : r .answer .state ≡ emptyState
   pub count : r .answer .count ≡ 0
   pub cost : r .answer .cost ≡ 0
@@ -53,10 +56,10 @@ pub record LeavesAll (room : List ℕ) (r : Replayed) : Type 0 where
 
 pub record ReplayIsDefinition1 (shop sheet trace room : List ℕ) : Type 0 where
   pub accepts-iff : (replay shop sheet trace room .answer .number ≡ 0)
-      ↔ (Ready shop sheet trace room × ((plan : List ℕ) × (last : State) × Derives shop sheet trace plan last))
-  pub results : (plan : List ℕ) (last : State) → Ready shop sheet trace room → Derives shop sheet trace plan last
+      ↔ (InputsPass shop sheet trace room × ((plan : List ℕ) × (last : State) × Derives shop sheet trace plan last))
+  pub results : (plan : List ℕ) (last : State) → InputsPass shop sheet trace room → Derives shop sheet trace plan last
       → Accepts shop trace room plan last (replay shop sheet trace room)
-  pub otherwise : replay shop sheet trace room .answer .number ≢ 0 → LeavesAll room (replay shop sheet trace room)
+  pub otherwise : replay shop sheet trace room .answer .number ≢ 0 → Refuses room (replay shop sheet trace room)
 
 abbrev pub Demand2 : Type 0
 Demand2 = (shop sheet trace room : List ℕ) → ReplayIsDefinition1 shop sheet trace room
@@ -79,30 +82,52 @@ pub record JoinRule (d : Domain) (a b : Order) (xs : List Step) : Type 0 where
       → OnJoin d a b xs plan last ↔ ((plan ≡ cut .frontPlan ++ cut .backPlan) × (last ≡ cut .last))
   pub cost : (c : ℕ) (cut : Cut d a b xs c) (plan : List ℕ) (last : State)
       → OnJoin d a b xs plan last → costOf d plan ≡ costOf d (cut .frontPlan) + costOf d (cut .backPlan)
+  -- "So where the two orders have more than 64 goals together, no trace is accepted on the join and no cut will do."
+  pub too-many : mostWaiting < length (a .goals) + length (b .goals)
+      → ((plan : List ℕ) (last : State) → ¬ OnJoin d a b xs plan last) × ((c : ℕ) → ¬ Cut d a b xs c)
 
 abbrev pub Demand3 : Type 0
 Demand3 = (shop first second : List ℕ) → checkOrder shop first ≡ passed → checkOrder shop second ≡ passed
     → (xs : List Step) → JoinRule (domain shop) (order first) (order second) xs
 
--- Document 01's 'after' and 000's partial order. On every network that a run reaches from checked sheets, a goal is free by the
--- listed pairs exactly when it is unconstrained by their transitive closure, and that closure is a strict partial order.
+-- "Accepted" means in it what it means in demand 2: a derivation under Definition 1, whatever the limit, the first state and the
+-- first list.
+abbrev pub AcceptedIsDerivation : Type 0
+AcceptedIsDerivation = (shop : List ℕ) → checkShop shop ≡ passed
+    → (limit : ℕ) (s : State) (w : List Waiting) (xs : List Step) (plan : List ℕ) (last : State)
+    → Accepted limit (domain shop) s w xs plan last ↔ Derivation limit (domain shop) 0 s w xs plan last
 
--- A run of the order's sheet reaches step `n`, this state and this network.
-pub data Reached (d : Domain) (o : Order) : ℕ → State → List Waiting → Type 0 where
-  first : Reached d o 0 (startOf o) (goalsOf o)
+-- "every goal of the first before every goal of the second": in the join's list the first's goals have the first places.
+abbrev pub FirstBeforeSecond : Type 0
+FirstBeforeSecond = (a b : Order) (i j : ℕ) (p q : Waiting) → At (goalsOf (join a b)) i p → At (goalsOf (join a b)) j q
+    → i < length (a .goals) → length (a .goals) ≤ j → Listed p q
+
+-- Document 01's 'after' and 000's partial order. On every network that a run reaches from checked sheets or their joins, whatever
+-- the limit and the first state, a goal is free by the listed pairs exactly when it is unconstrained by their transitive closure,
+-- and that closure is a strict partial order.
+
+-- The order of a sheet that passes with this shop sheet, or a join of such orders.
+pub data FromSheets (shop : List ℕ) : Order → Type 0 where
+  by-sheet : (sheet : List ℕ) → checkOrder shop sheet ≡ passed → FromSheets shop (order sheet)
+  by-join : {a b : Order} → FromSheets shop a → FromSheets shop b → FromSheets shop (join a b)
+
+-- A run of the order's goals from the first state `s₀` reaches step `n`, this state and this network.
+pub data Reached (limit : ℕ) (d : Domain) (s₀ : State) (o : Order) : ℕ → State → List Waiting → Type 0 where
+  first : Reached limit d s₀ o 0 s₀ (goalsOf o)
   next : {n : ℕ} {s s′ : State} {w w′ : List Waiting} {done : List ℕ} (x : Step)
-      → Reached d o n s w → stepped mostWaiting d n s w x ≡ taken done s′ w′ → Reached d o (suc n) s′ w′
+      → Reached limit d s₀ o n s w → stepped limit d n s w x ≡ taken done s′ w′ → Reached limit d s₀ o (suc n) s′ w′
 
-pub record PartialOrder (w : List Waiting) : Type 0 where
+pub record OrderedNetwork (w : List Waiting) : Type 0 where
   pub free-iff : (t : Waiting) → List·Memᴰ t w → (free w t ≡ true) ↔ Unconstrained w t
   pub irreflexive : (t : Waiting) → ¬ Precedes w t t
 
 abbrev pub NetworksAreOrdered : Type 0
-NetworksAreOrdered = (shop sheet : List ℕ) → checkOrder shop sheet ≡ passed
-    → (n : ℕ) (s : State) (w : List Waiting) → Reached (domain shop) (order sheet) n s w → PartialOrder w
+NetworksAreOrdered = (shop : List ℕ) (o : Order) → FromSheets shop o → (limit n : ℕ) (s₀ s : State) (w : List Waiting)
+    → Reached limit (domain shop) s₀ o n s w → OrderedNetwork w
 
 -- 000's operations on such a network. Goal release: "T′ = T \ {t} and ≺′ is the restriction of ≺ to T′". Method application:
--- "T′ = T ∪ T_m and ≺′ = ≺ ∪ ≺_m ∪ {(t_m, t)}", here of the listed pairs, whose closure is the order.
+-- "T′ = T ∪ T_m and ≺′ = ≺ ∪ ≺_m ∪ {(t_m, t) | t_m ∈ T_m}" (000 prints m ∈ T_m), here of the listed pairs, whose closure is the
+-- order.
 
 -- The nodes T_m of a method used at goal `t` in step `n`.
 abbrev pub entering : ℕ → Waiting → Method → List Waiting
@@ -125,8 +150,18 @@ pub record Operations (d : Domain) (n : ℕ) (w : List Waiting) : Type 0 where
       ⊎ (List·Memᴰ a (entering n t m) × (b ≡ t))))
 
 abbrev pub OperationsAre000s : Type 0
-OperationsAre000s = (shop sheet : List ℕ) → checkOrder shop sheet ≡ passed
-    → (n : ℕ) (s : State) (w : List Waiting) → Reached (domain shop) (order sheet) n s w → Operations (domain shop) n w
+OperationsAre000s = (shop : List ℕ) (o : Order) → FromSheets shop o → (limit n : ℕ) (s₀ s : State) (w : List Waiting)
+    → Reached limit (domain shop) s₀ o n s w → Operations (domain shop) n w
+
+-- 000: "By convention, network(m) has a last node t_g containing goal(m) to ensure that m accomplishes its own goal." Document 01:
+-- "it comes after all the others by rule".
+
+pub record EndsInGoal (m : Method) : Type 0 where
+  pub goal : lastOf (networkOf m) .formula ≡ goalOf m ∷ []
+  pub after-others : lastOf (networkOf m) .after ≡ below (length (networkOf m) - 1)
+
+abbrev pub MethodsEndInGoals : Type 0
+MethodsEndInGoals = (shop : List ℕ) → checkShop shop ≡ passed → (m : Method) → List·Memᴰ m (domain shop .methods) → EndsInGoal m
 
 -- 000: "γ(s, a) = (s - eff⁻(a)) ∪ eff⁺(a)". An action's effect by rows, one after another, is that set, atom by atom.
 
@@ -148,11 +183,20 @@ abbrev pub EffectsAreGamma : Type 0
 EffectsAreGamma = (shop : List ℕ) → checkShop shop ≡ passed → (a : Action) → List·Memᴰ a (domain shop .actions)
     → (s : State) → length s ≡ mostAtoms → Effect s (a .effects)
 
+-- Document 01: the cost is "at most 4,096 × 65,535 = 268,431,360".
+abbrev pub CostsAreBounded : Type 0
+CostsAreBounded = (shop : List ℕ) → checkShop shop ≡ passed → (plan : List ℕ) → length plan ≤ mostSteps
+    → costOf (domain shop) plan ≤ 268_431_360
+
 -- All of it.
 pub record Proved : Type 0 where
   pub marked-cases : MarkedCases
   pub demand-2 : Demand2
   pub demand-3 : Demand3
+  pub accepted-is-derivation : AcceptedIsDerivation
+  pub first-before-second : FirstBeforeSecond
   pub networks-are-ordered : NetworksAreOrdered
   pub operations-are-000s : OperationsAre000s
+  pub methods-end-in-goals : MethodsEndInGoals
   pub effects-are-gamma : EffectsAreGamma
+  pub costs-are-bounded : CostsAreBounded

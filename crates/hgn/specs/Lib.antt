@@ -1,17 +1,23 @@
--- The definitions, in document 01's order. `Demands` is the page of statements; `Cases` are document 01's marked cases.
+-- The definitions, in document 01's order, by its sections.
+-- What all of them use.
 pub mod Lists
+-- "The three sheets": their rows, and what they mean.
 pub mod Tag
 pub mod Rows
 pub mod Meaning
+-- "How a derivation runs", with the questions 25 to 33 in `Run`.
 pub mod State
 pub mod Network
 pub mod Run
 pub mod Join
+-- "Questions, and the number when the answer is no", with the sizes of each sheet from "The three sheets".
 pub mod Verdict
 pub mod Shop
 pub mod Order
 pub mod Trace
 pub mod Replay
+-- Source document 000, and the statements that are proved.
 pub mod Definition1
 pub mod Demands
+-- "One core of sixty centimetres": the marked cases.
 pub mod Cases

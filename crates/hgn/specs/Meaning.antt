@@ -1,9 +1,9 @@
 -- What sheets that pass mean: a domain of actions and methods, an order of goals.
 -- Document 01, "The three sheets"; source document 000, "Goal Networks and HGN Methods".
-use Prim.Native.Nat.{ℕ, zero, suc, _-_}
+use Prim.Native.Nat.{ℕ, suc}
 use mathlib.Core.Bool.{Bool, true, false, cond, _||_}
 use mathlib.Core.List.{List, [], _∷_, map, headD}
-use Rattle.hgn.specs.Lists.{parts, keep, upTo, below}
+use Rattle.hgn.specs.Lists.{parts, keep, below}
 use Rattle.hgn.specs.Rows.{Row, has, valuesOf}
 use Rattle.hgn.specs.Tag
 
@@ -15,7 +15,7 @@ pub record Literal : Type 0 where
 abbrev pub Formula : Type 0
 Formula = List (List Literal)
 
--- A node of a network as the sheet lists it, with the numbers of the nodes that it comes after (its 11 rows).
+-- A node of a network, with the numbers of the nodes it comes after: its 11 rows, or by rule (`lastAfterAll`, `raised` of `Join`).
 pub record Node : Type 0 where
   pub after : List ℕ
   pub formula : Formula
@@ -59,14 +59,14 @@ unfoldable pub nodesOf : List Row → List Node
 unfolding parts
 nodesOf rows = map nodeOf (parts (has Tag.node) rows)
 
--- The cost is the value of the action's first row.
-unfoldable pub costOf : List Row → ℕ
-costOf [] = 0
-costOf (r ∷ rs) = r .value
+-- The value of the first row: of an action, its cost.
+unfoldable pub firstValue : List Row → ℕ
+firstValue [] = 0
+firstValue (r ∷ rs) = r .value
 
 unfoldable pub actionOf : List Row → Action
 actionOf rows = record {
-  cost = costOf rows;
+  cost = firstValue rows;
   needs = literals Tag.needsTrue Tag.needsFalse rows;
   effects = literals Tag.makesTrue Tag.makesFalse rows;
 }

@@ -1,6 +1,6 @@
 -- The waiting list: the goal network of 000 as document 01 keeps it. Document 01, "How a derivation runs".
--- A waiting goal is never changed. Who comes after whom is read off its name, its owner and the numbers of its own 11 rows,
--- so a release only takes a goal out and a method only puts goals in.
+-- A waiting goal is never changed. Who comes after whom is read off its name, its parent goal and the numbers of the nodes it
+-- comes after (its 11 rows, or by rule), so a release only takes a goal out and a method only puts goals in.
 use Prim.Native.Nat.{ℕ, suc}
 use mathlib.Core.Bool.{Bool, true, false, not, _&&_, _||_}
 use mathlib.Core.List.{List, [], _∷_, _++_}
@@ -26,8 +26,8 @@ pub record Name : Type 0 where
 
 pub record Waiting : Type 0 where
   pub name : Name
-  pub owner : Option Name  -- the goal at which its method was used; none for a goal of the order
-  pub after : List ℕ  -- the numbers, in its network, of the nodes it comes after
+  pub parent : Option Name  -- the parent goal, at which its method was used; none for a goal of the order
+  pub after : List ℕ  -- the numbers, in its network, of the nodes it comes after: its 11 rows, or by rule
   pub formula : Formula
 
 unfoldable pub sameOrigin : Origin → Origin → Bool
@@ -39,14 +39,14 @@ sameOrigin (step m) (step n) = eqb m n
 unfoldable pub sameName : Name → Name → Bool
 sameName a b = sameOrigin (a .origin) (b .origin) && eqb (a .number) (b .number)
 
-unfoldable pub isOwner : Name → Option Name → Bool
-isOwner a none = false
-isOwner a (some b) = sameName a b
+unfoldable pub isParent : Name → Option Name → Bool
+isParent a none = false
+isParent a (some b) = sameName a b
 
 -- `q` comes after `p`: `p` is of `q`'s network and its number is among `q`'s, or `p` came with a method used at `q`.
 unfoldable pub comesAfter : Waiting → Waiting → Bool
 comesAfter q p =
-    sameOrigin (q .name .origin) (p .name .origin) && among (p .name .number) (q .after) || isOwner (q .name) (p .owner)
+    sameOrigin (q .name .origin) (p .name .origin) && among (p .name .number) (q .after) || isParent (q .name) (p .parent)
 
 -- A waiting goal is free if no goal it comes after still waits.
 unfoldable pub free : List Waiting → Waiting → Bool
@@ -57,17 +57,17 @@ anyFree w = any (free w) w
 
 -- A network's nodes as waiting goals, in listed order; `i` nodes stand before these.
 unfoldable pub enter : Origin → Option Name → ℕ → List Node → List Waiting
-enter o owner i [] = []
-enter o owner i (n ∷ ns) =
-    record { name = record { origin = o; number = i }; owner = owner; after = n .after; formula = n .formula }
-    ∷ enter o owner (suc i) ns
+enter o parent i [] = []
+enter o parent i (n ∷ ns) =
+    record { name = record { origin = o; number = i }; parent = parent; after = n .after; formula = n .formula }
+    ∷ enter o parent (suc i) ns
 
 -- At first the waiting list holds the order's goals in listed order.
 unfoldable pub goalsOf : Order → List Waiting
 goalsOf o = enter order none 0 (o .goals)
 
 abbrev pub noGoal : Waiting
-noGoal = record { name = record { origin = order; number = 0 }; owner = none; after = []; formula = [] }
+noGoal = record { name = record { origin = order; number = 0 }; parent = none; after = []; formula = [] }
 
 -- The goal at a place, from 0.
 abbrev pub goalAt : List Waiting → ℕ → Waiting
@@ -77,7 +77,7 @@ goalAt w p = getD w p noGoal
 unfoldable pub released : List Waiting → ℕ → List Waiting
 released w p = take p w ++ drop (suc p) w
 
--- gn ∘ m of 000: the nodes of a method used at step `n` enter directly before the goal at place `p`, in listed order,
+-- gn ∘_t m of 000: the nodes of a method used at step `n` enter directly before the goal at place `p`, in listed order,
 -- with their own afters, and that goal comes after each of them. The goal itself stays.
 unfoldable pub decomposed : List Waiting → ℕ → ℕ → List Node → List Waiting
 decomposed w p n nodes = take p w ++ (enter (step n) (some (goalAt w p .name)) 0 nodes ++ drop p w)

@@ -12,20 +12,21 @@ use Rattle.hgn.specs.Verdict.{Verdict, passed, ask, andThen, rowQuestion
 use Rattle.hgn.specs.Shop
 
 -- The sizes F, G and N.
-abbrev pub atoms : List ℕ → ℕ
-atoms sheet = word sheet 0
+abbrev pub atomCount : List ℕ → ℕ
+atomCount sheet = word sheet 0
 
-abbrev pub goals : List ℕ → ℕ
-goals sheet = word sheet 1
+abbrev pub goalCount : List ℕ → ℕ
+goalCount sheet = word sheet 1
 
-abbrev pub rows : List ℕ → ℕ
-rows sheet = word sheet 2
+abbrev pub rowCount : List ℕ → ℕ
+rowCount sheet = word sheet 2
 
-abbrev pub sizes : ℕ
-sizes = 3
+-- The words before the rows.
+abbrev pub sizeWords : ℕ
+sizeWords = 3
 
 unfoldable pub orderRows : List ℕ → List Row
-orderRows sheet = rowsOf sizes (rows sheet) sheet
+orderRows sheet = rowsOf sizeWords (rowCount sheet) sheet
 
 -- What an order sheet that passes means.
 unfoldable pub order : List ℕ → Order
@@ -33,16 +34,16 @@ order sheet = orderOf (orderRows sheet)
 
 unfoldable pub sizesInRange : List ℕ → List ℕ → Bool
 sizesInRange shop sheet =
-    eqb (atoms sheet) (Shop.atoms shop) && leb (goals sheet) mostWaiting && leb (rows sheet) mostRows
+    eqb (atomCount sheet) (Shop.atomCount shop) && leb (goalCount sheet) mostWaiting && leb (rowCount sheet) mostRows
 
 unfoldable pub orderQuestions : List ℕ → List ℕ → Verdict
 orderQuestions shop sheet =
-    ask (leb sizes (length sheet)) 11 0
+    ask (leb sizeWords (length sheet)) 11 0
     (ask (sizesInRange shop sheet) 12 0
-    (ask (eqb (length sheet) (sizes + 2 * rows sheet)) 13 0
-    (andThen (rowQuestions orderFollow 14 (atoms sheet) 0 opening (orderRows sheet))
+    (ask (eqb (length sheet) (sizeWords + 2 * rowCount sheet)) 13 0
+    (andThen (rowQuestions orderFollow 14 (atomCount sheet) 0 opening (orderRows sheet))
     (ask (mayEnd (positionAfter opening (orderRows sheet) .context)) 17 0
-    (ask (eqb (length (order sheet .goals)) (goals sheet)) 18 0
+    (ask (eqb (length (order sheet .goals)) (goalCount sheet)) 18 0
     passed)))))
 
 -- Every check asks about all its sheets, in order.

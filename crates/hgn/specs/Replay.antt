@@ -1,6 +1,6 @@
 -- The replay's whole answer and what the lent room holds at exit, for every four lists of words. Document 01, "Questions".
 use Prim.Native.Nat.{ℕ}
-use mathlib.Core.List.{List, [], _++_}
+use mathlib.Core.List.{List, _++_}
 use lib.Dec.{leb}
 use lib.ListN.{length, drop}
 use Rattle.hgn.specs.Meaning.{Domain}
@@ -10,7 +10,7 @@ use Rattle.hgn.specs.Run.{Outcome, stopped, accepted, run, startOf, cost
 use Rattle.hgn.specs.Verdict.{Verdict, passed, refused, ask, andThen}
 use Rattle.hgn.specs.Shop.{domain}
 use Rattle.hgn.specs.Order.{order}
-use Rattle.hgn.specs.Trace.{steps, stepsOf, checkTrace}
+use Rattle.hgn.specs.Trace.{stepCount, stepsOf, checkTrace}
 
 pub record Answer : Type 0 where
   pub number : ℕ
@@ -45,12 +45,12 @@ reported d steps room (accepted plan s) = acceptance d steps room plan s
 -- The sheets' questions, then: room for L words of plan? 24.
 unfoldable pub checkReplay : List ℕ → List ℕ → List ℕ → List ℕ → Verdict
 checkReplay shop sheet trace room =
-    andThen (checkTrace shop sheet trace) (ask (leb (steps trace) (length room)) 24 0 passed)
+    andThen (checkTrace shop sheet trace) (ask (leb (stepCount trace) (length room)) 24 0 passed)
 
 unfoldable pub replay : List ℕ → List ℕ → List ℕ → List ℕ → Replayed
 replay shop sheet trace room = elim (checkReplay shop sheet trace room) [
   | refused number place ↦ refusal room number place
   | passed ↦
-      reported (domain shop) (steps trace) room
+      reported (domain shop) (stepCount trace) room
       (run mostWaiting (domain shop) 0 (startOf (order sheet)) (goalsOf (order sheet)) (stepsOf trace))
 ]

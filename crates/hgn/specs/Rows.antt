@@ -1,6 +1,6 @@
 -- A sheet's rows: two parallel arrays, of tags and of values, behind the sizes. Document 01, "The three sheets".
 use Prim.Native.Nat.{ℕ, _+_}
-use mathlib.Core.Bool.{Bool, cond, true, false}
+use mathlib.Core.Bool.{Bool, cond}
 use mathlib.Core.List.{List, [], _∷_, zipWith}
 use lib.Dec.{eqb}
 use lib.ListN.{take, drop, getD}
@@ -20,10 +20,10 @@ mostRows = 4000
 abbrev pub word : List ℕ → ℕ → ℕ
 word sheet i = getD sheet i 0
 
--- The `n` rows of a sheet that has `sizes` words before them.
+-- The `n` rows of a sheet that has `sizeWords` words before them.
 unfoldable pub rowsOf : ℕ → ℕ → List ℕ → List Row
 unfolding zipWith
-rowsOf sizes n sheet = zipWith row (take n (drop sizes sheet)) (take n (drop (sizes + n) sheet))
+rowsOf sizeWords n sheet = zipWith row (take n (drop sizeWords sheet)) (take n (drop (sizeWords + n) sheet))
 
 -- The row has this tag.
 abbrev pub has : ℕ → Row → Bool

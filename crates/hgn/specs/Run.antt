@@ -1,6 +1,6 @@
 -- Moves, one step as the questions 25 to 32 in their order, and a run with question 33.
 -- Document 01, "How a derivation runs" and "Questions".
-use Prim.Native.Nat.{ℕ, zero, suc, _+_, _-_}
+use Prim.Native.Nat.{ℕ, suc, _+_, _-_}
 use mathlib.Core.Bool.{Bool, true, false, cond, _&&_}
 use mathlib.Core.List.{List, [], _∷_, _++_}
 use lib.Dec.{eqb, leb, ltb}
@@ -24,6 +24,7 @@ pub data Move : Type 0 where
   use-method : ℕ → Move  -- a method by its number, from 0
   unknown : Move
 
+-- With at most 255 actions no number reads two ways: 0, 1 to K, 256 to 255 + M.
 unfoldable pub moveOf : Domain → ℕ → Move
 moveOf d n =
     cond (eqb n 0) release
@@ -86,21 +87,23 @@ pub data Outcome : Type 0 where
   stopped : ℕ → ℕ → Outcome
   accepted : List ℕ → State → Outcome
 
-unfoldable pub before : List ℕ → Outcome → Outcome
-before done (stopped number place) = stopped number place
-before done (accepted plan s) = accepted (done ++ plan) s
+-- The actions done, in front of the plan of the rest of the run.
+unfoldable pub prepend : List ℕ → Outcome → Outcome
+prepend done (stopped number place) = stopped number place
+prepend done (accepted plan s) = accepted (done ++ plan) s
 
 -- After the last step: nothing waiting? 33.
 unfoldable pub ended : ℕ → State → List Waiting → Outcome
 ended n s [] = accepted [] s
 ended n s (g ∷ w) = stopped 33 n
 
--- The run of the steps from step number `n` on, with at most `limit` waiting after every step.
+-- The run of the steps from step number `n` on. Only a method adds to the list, so `limit` is asked only there: a run from a list
+-- within the limit stays within it, and `Accepted` of `Join` asks it of the first list.
 unfoldable pub run : ℕ → Domain → ℕ → State → List Waiting → List Step → Outcome
 run limit d n s w [] = ended n s w
 run limit d n s w (x ∷ xs) = elim (stepped limit d n s w x) [
   | refused number ↦ stopped number n
-  | taken done s′ w′ ↦ before done (run limit d (suc n) s′ w′ xs)
+  | taken done s′ w′ ↦ prepend done (run limit d (suc n) s′ w′ xs)
 ]
 
 -- At first the state is the atoms of the order's 12 rows.

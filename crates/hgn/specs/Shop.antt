@@ -1,5 +1,5 @@
 -- The shop sheet: its sizes, its meaning, and the questions 1 to 9. Document 01, "The three sheets" and "Questions".
-use Prim.Native.Nat.{ℕ, zero, suc, _+_, _*_}
+use Prim.Native.Nat.{ℕ, suc, _+_, _*_}
 use mathlib.Core.Bool.{Bool, _&&_}
 use mathlib.Core.List.{List, [], _∷_}
 use lib.Dec.{eqb, leb}
@@ -11,24 +11,27 @@ use Rattle.hgn.specs.State.{mostAtoms}
 use Rattle.hgn.specs.Verdict.{Verdict, passed, ask, andThen, rowQuestions, positionAfter}
 
 -- The sizes F, K, M and N.
-abbrev pub atoms : List ℕ → ℕ
-atoms shop = word shop 0
+abbrev pub atomCount : List ℕ → ℕ
+atomCount shop = word shop 0
 
-abbrev pub actions : List ℕ → ℕ
-actions shop = word shop 1
+abbrev pub actionCount : List ℕ → ℕ
+actionCount shop = word shop 1
 
-abbrev pub methods : List ℕ → ℕ
-methods shop = word shop 2
+abbrev pub methodCount : List ℕ → ℕ
+methodCount shop = word shop 2
 
-abbrev pub rows : List ℕ → ℕ
-rows shop = word shop 3
+abbrev pub rowCount : List ℕ → ℕ
+rowCount shop = word shop 3
 
-abbrev pub sizes : ℕ
-sizes = 4
+-- The words before the rows.
+abbrev pub sizeWords : ℕ
+sizeWords = 4
 
+-- The most actions of a shop sheet: the moves 1 to 255.
 abbrev pub mostActions : ℕ
 mostActions = 255
 
+-- The most methods of a shop sheet: the moves 256 to 510.
 abbrev pub mostMethods : ℕ
 mostMethods = 255
 
@@ -37,7 +40,7 @@ abbrev pub mostNodes : ℕ
 mostNodes = 63
 
 unfoldable pub shopRows : List ℕ → List Row
-shopRows shop = rowsOf sizes (rows shop) shop
+shopRows shop = rowsOf sizeWords (rowCount shop) shop
 
 -- What a shop sheet that passes means.
 unfoldable pub domain : List ℕ → Domain
@@ -45,8 +48,8 @@ domain shop = domainOf (shopRows shop)
 
 unfoldable pub sizesInRange : List ℕ → Bool
 sizesInRange shop =
-    leb 1 (atoms shop) && leb (atoms shop) mostAtoms && leb (actions shop) mostActions && leb (methods shop) mostMethods
-    && leb (rows shop) mostRows
+    leb 1 (atomCount shop) && leb (atomCount shop) mostAtoms && leb (actionCount shop) mostActions
+    && leb (methodCount shop) mostMethods && leb (rowCount shop) mostRows
 
 -- The node rules: a method's nodes number 1 to 63; its last listed node has exactly one alternative and no 11 rows.
 unfoldable pub nodeRules : Method → Bool
@@ -61,10 +64,10 @@ methodQuestions i (m ∷ ms) = ask (nodeRules m) 9 i (methodQuestions (suc i) ms
 
 unfoldable pub checkShop : List ℕ → Verdict
 checkShop shop =
-    ask (leb sizes (length shop)) 1 0
+    ask (leb sizeWords (length shop)) 1 0
     (ask (sizesInRange shop) 2 0
-    (ask (eqb (length shop) (sizes + 2 * rows shop)) 3 0
-    (andThen (rowQuestions shopFollow 4 (atoms shop) 0 opening (shopRows shop))
+    (ask (eqb (length shop) (sizeWords + 2 * rowCount shop)) 3 0
+    (andThen (rowQuestions shopFollow 4 (atomCount shop) 0 opening (shopRows shop))
     (ask (mayEnd (positionAfter opening (shopRows shop) .context)) 7 0
-    (ask (eqb (length (domain shop .actions)) (actions shop) && eqb (length (domain shop .methods)) (methods shop)) 8 0
+    (ask (eqb (length (domain shop .actions)) (actionCount shop) && eqb (length (domain shop .methods)) (methodCount shop)) 8 0
     (methodQuestions 0 (domain shop .methods)))))))

@@ -1,8 +1,9 @@
 -- States, what holds in them, what an action makes of them, and relevance.
--- Document 01, "How a derivation runs"; source document 000, "Domain-Independent Planning" and "HGN Methods".
+-- Document 01, "How a derivation runs"; source document 000, "Domain-Independent Planning" and
+-- "Goal Networks and HGN Methods".
 use Prim.Native.Nat.{ℕ}
 use mathlib.Core.Bool.{Bool, true, false, not, cond, _&&_, Bool·beq}
-use mathlib.Core.List.{List, [], _∷_, flatten, map}
+use mathlib.Core.List.{List, [], _∷_, flatten}
 use lib.Dec.{eqb}
 use lib.ListN.{getD, set, replicate}
 use Rattle.hgn.specs.Lists.{any, all}

@@ -1,7 +1,7 @@
--- The twelve tags by name, which tag may follow which, and the ranges of values.
+-- The twelve tags by name, which tag may follow which, the ranges of values, and the groups in which values rise.
 -- Document 01, "The three sheets".
-use Prim.Native.Nat.{ℕ, zero, suc}
-use mathlib.Core.Bool.{Bool, cond, _||_, true, not}
+use Prim.Native.Nat.{ℕ, suc}
+use mathlib.Core.Bool.{Bool, true, false, cond, _||_}
 use mathlib.Core.List.{List, [], _∷_}
 use lib.Dec.{eqb, leb, ltb}
 use Rattle.hgn.specs.Lists.{among}
@@ -74,12 +74,12 @@ orderFollow inNode = after ∷ alternative ∷ []
 orderFollow inAlternative = wantedTrue ∷ wantedFalse ∷ alternative ∷ node ∷ []
 
 -- A sheet may not end after 2, after 3 or 4 of a method, or after 7 or 11.
-unfoldable pub mayEnd : Context → Bool
+abbrev pub mayEnd : Context → Bool
 mayEnd atStart = true
 mayEnd inAction = true
 mayEnd inEffects = true
-mayEnd inMethod = Bool.false
-mayEnd inNode = Bool.false
+mayEnd inMethod = false
+mayEnd inNode = false
 mayEnd inAlternative = true
 
 -- Where the sheet stands after a row: 3 and 4 stay in their action or method, 12 at the start.
@@ -92,11 +92,16 @@ contextAfter c t =
     (cond (among t (alternative ∷ wantedTrue ∷ wantedFalse ∷ [])) inAlternative
     c))))
 
+-- "Groups: the 3 and 4 rows of one action or method; its 5 and 6 rows; the 9 and 10 rows of one alternative; the 11 rows of one
+-- node; the 12 rows. Values rise strictly within a group, so no atom stands twice or with both signs."
+-- Each begins with 0 as its least value: the 12 rows by `opening`; the 3 and 4 rows, the 11 rows and the 9 and 10 rows by `advance`
+-- over the 1 or 2, the 7 and the 8 before them; the 5 and 6 rows by `leastHere`.
+
 -- What a sheet's earlier rows say about the next row.
 pub record Position : Type 0 where
   pub context : Context
   pub least : ℕ  -- the least value that goes on in the group of the last row
-  pub nodes : ℕ  -- the nodes so far in this network
+  pub nodes : ℕ  -- the nodes so far in this network, the one that an 11 row stands in among them: its number is `nodes` less 1
 
 abbrev pub opening : Position
 opening = record { context = atStart; least = 0; nodes = 0 }
@@ -105,7 +110,7 @@ opening = record { context = atStart; least = 0; nodes = 0 }
 unfoldable pub begins : ℕ → Bool
 begins t = among t (action ∷ method ∷ node ∷ alternative ∷ [])
 
--- The first 5 or 6 of an action begins a group of its own. Every other group begins after a row that `begins`, or at the start.
+-- The least value for this tag: the first 5 or 6 of an action does not go on in the group of the 3 and 4 rows before it.
 unfoldable pub leastHere : Position → ℕ → ℕ
 leastHere p t = elim (p .context) [
   | inAction ↦ cond (among t (makesTrue ∷ makesFalse ∷ [])) 0 (p .least)
@@ -116,6 +121,8 @@ leastHere p t = elim (p .context) [
   | inAlternative ↦ p .least
 ]
 
+-- The position after a row: no group yet after a row that `begins`, and else a group that goes on above this row's value.
+-- A network's nodes are counted from its method's 2 on, or from the start of an order sheet.
 unfoldable pub advance : Position → ℕ → ℕ → Position
 advance p t v = record {
   context = contextAfter (p .context) t;

@@ -9,12 +9,14 @@ use Rattle.hgn.specs.Verdict.{Verdict, passed, ask, andThen}
 use Rattle.hgn.specs.Order.{checkOrder}
 
 -- The size L.
-abbrev pub steps : List ℕ → ℕ
-steps trace = word trace 0
+abbrev pub stepCount : List ℕ → ℕ
+stepCount trace = word trace 0
 
-abbrev pub sizes : ℕ
-sizes = 1
+-- The words before the moves.
+abbrev pub sizeWords : ℕ
+sizeWords = 1
 
+-- The most steps of a trace.
 abbrev pub mostSteps : ℕ
 mostSteps = 4096
 
@@ -24,13 +26,15 @@ step move place = record { move = move; place = place }
 -- L moves, then L places.
 unfoldable pub stepsOf : List ℕ → List Step
 unfolding zipWith
-stepsOf trace = zipWith step (take (steps trace) (drop sizes trace)) (take (steps trace) (drop (sizes + steps trace) trace))
+stepsOf trace =
+    zipWith step (take (stepCount trace) (drop sizeWords trace))
+    (take (stepCount trace) (drop (sizeWords + stepCount trace) trace))
 
 unfoldable pub traceQuestions : List ℕ → Verdict
 traceQuestions trace =
-    ask (leb sizes (length trace)) 21 0
-    (ask (leb (steps trace) mostSteps) 22 0
-    (ask (eqb (length trace) (sizes + 2 * steps trace)) 23 0
+    ask (leb sizeWords (length trace)) 21 0
+    (ask (leb (stepCount trace) mostSteps) 22 0
+    (ask (eqb (length trace) (sizeWords + 2 * stepCount trace)) 23 0
     passed))
 
 unfoldable pub checkTrace : List ℕ → List ℕ → List ℕ → Verdict

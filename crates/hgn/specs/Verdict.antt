@@ -1,5 +1,5 @@
 -- A check's answer, and the questions asked of every row of a sheet. Document 01, "Questions".
-use Prim.Native.Nat.{ℕ, zero, suc, _+_}
+use Prim.Native.Nat.{ℕ, suc, _+_}
 use mathlib.Core.Bool.{Bool, true, false}
 use mathlib.Core.List.{List, [], _∷_}
 use Rattle.hgn.specs.Lists.{among}

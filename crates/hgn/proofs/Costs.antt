@@ -1,0 +1,30 @@
+-- The cost of a plan: of two plans one after the other, and at most 268,431,360. Assumes nothing.
+use Prim.Native.Nat.{ℕ, zero, suc, _+_, _-_, _*_, _≤_}
+use native.Mathlib.Omega.{arith}
+use mathlib.Core.Path.{_≡_, refl}
+use mathlib.Core.List.{List, [], _∷_, _++_, List·Memᴰ, List·Memᴰ·head, List·Memᴰ·tail}
+use lib.ListN.{length, getD}
+use Rattle.hgn.specs.Meaning.{Action, Domain}
+use Rattle.hgn.specs.Run.{noAction, costOf}
+use Rattle.hgn.specs.Shop.{domain}
+use Rattle.hgn.specs.Demands.{CostsAreBounded}
+use Rattle.hgn.proofs.Checked.{action-cost}
+
+pub cost-append : (d : Domain) (p q : List ℕ) → costOf d (p ++ q) ≡ costOf d p + costOf d q
+unfolding costOf
+cost-append d [] q = omega arith
+cost-append d (k ∷ p) q = omega (arith, cost-append d p q)
+
+-- An action that is not there costs 0.
+cost-at : (xs : List Action) → ((a : Action) → List·Memᴰ a xs → a .cost ≤ 65535) → (i : ℕ) → getD xs i noAction .cost ≤ 65535
+cost-at [] h i = omega arith
+cost-at (a ∷ xs) h zero = h a (List·Memᴰ·head refl)
+cost-at (a ∷ xs) h (suc i) = cost-at xs (λ b m. h b (List·Memᴰ·tail m)) i
+
+plan-cost : (d : Domain) → ((a : Action) → List·Memᴰ a (d .actions) → a .cost ≤ 65535) → (plan : List ℕ) → costOf d plan ≤ length plan * 65535
+unfolding costOf
+plan-cost d h [] = omega arith
+plan-cost d h (k ∷ plan) = omega (arith, cost-at (d .actions) h (k - 1), plan-cost d h plan)
+
+pub costs-are-bounded : CostsAreBounded
+costs-are-bounded shop e plan l = omega (arith, plan-cost (domain shop) (action-cost shop e) plan)

@@ -1,0 +1,69 @@
+-- The join of two orders as a network: its goals come only after lower goals, and the second's after all of the first's.
+-- Assumes nothing.
+use Prim.Native.Nat.{ℕ, suc, _+_, _≤_, _<_}
+use native.Mathlib.Omega.{arith}
+use native.Mathlib.Nat.{add-zero, zero-add, add-suc, suc-add}
+use mathlib.Core.Path.{_≡_, refl, sym, _∙_}
+use mathlib.Core.Logic.{⊎-elim}
+use mathlib.Core.List.{List, [], _∷_, _++_, map, List·Memᴰ, List·Memᴰ·append-cases, Memᴰ·append-left, Memᴰ·of-map}
+use mathlib.Core.Option.{none}
+use lib.ListN.{length}
+use Rattle.hgn.specs.Lists.{At, here, there, below}
+use Rattle.hgn.specs.Meaning.{Node, Order}
+use Rattle.hgn.specs.Network.{order, Waiting, enter, goalsOf}
+use Rattle.hgn.specs.Join.{raised, join}
+use Rattle.hgn.specs.Definition1.{by-row}
+use Rattle.hgn.specs.Verdict.{passed}
+use Rattle.hgn.specs.Shop.{checkShop}
+use Rattle.hgn.specs.Demands.{FromSheets, by-sheet, by-join, FirstBeforeSecond}
+use Rattle.hgn.proofs.Tests.{below-lt, lt-below}
+use Rattle.hgn.proofs.Checked.{Numbered, order-numbered, shop-of-order}
+
+-- Two networks one after the other.
+numbered-append : (i : ℕ) (ns ms : List Node) → Numbered i ns → Numbered (i + length ns) ms → Numbered i (ns ++ ms)
+numbered-append i [] ms h k = rw add-zero at k
+numbered-append i (n ∷ ns) ms h k = (h .0, numbered-append (suc i) ns ms (h .1) (rw (suc-add, ← add-suc) k))
+
+-- A network's nodes raised by `g`.
+numbered-raised : (g i : ℕ) (ns : List Node) → Numbered i ns → Numbered (g + i) (map (raised g) ns)
+unfolding raised
+numbered-raised g i [] h = tt
+numbered-raised g i (n ∷ ns) h = (lower, rw add-suc at (numbered-raised g (suc i) ns (h .1)))
+  where
+    lower : (k : ℕ) → List·Memᴰ k (below g ++ map (λ j. g + j) (n .after)) → k < g + i
+    lower k m =
+        ⊎-elim (λ m. omega (arith, below-lt g k m)) (λ m. let (j, l, e) = Memᴰ·of-map _ (n .after) m in omega (arith, h .0 j l))
+        (List·Memᴰ·append-cases (below g) m)
+
+numbered-join : (a b : Order) → Numbered 0 (a .goals) → Numbered 0 (b .goals) → Numbered 0 (join a b .goals)
+unfolding join
+numbered-join a b h k =
+    numbered-append 0 (a .goals) _ h (rw zero-add (rw add-zero at (numbered-raised (length (a .goals)) 0 (b .goals) k)))
+
+-- The goals of an order of checked sheets come only after lower goals, and the shop sheet passes.
+pub from-sheets : {shop : List ℕ} {o : Order} → FromSheets shop o → (checkShop shop ≡ passed) × Numbered 0 (o .goals)
+from-sheets {shop} (by-sheet sheet e) = (shop-of-order shop sheet e, order-numbered shop sheet e)
+from-sheets (by-join {a} {b} f g) = let r = from-sheets f in (r .0, numbered-join a b (r .1) (from-sheets g .1))
+
+-- The goal at place `k`: its name, and its node.
+goal-at : (i : ℕ) {k : ℕ} {q : Waiting} (ns : List Node) → At (enter order none i ns) k q
+    → (q .name .origin ≡ order) × (q .name .number ≡ i + k) × ((n : Node) × At ns k n × (q .after ≡ n .after))
+unfolding enter
+goal-at i (n ∷ ns) here = (refl, sym (add-zero i), (n, here, refl))
+goal-at i (n ∷ ns) (there h) = let r = goal-at (suc i) ns h in (r .0, omega arith, (r .2 .0, there (r .2 .1), r .2 .2))
+
+-- A raised node comes after every node below `g`.
+after-first : (g : ℕ) {k : ℕ} {n : Node} (ns ms : List Node) → At (ns ++ map (raised g) ms) k n → length ns ≤ k
+    → (i : ℕ) → i < g → List·Memᴰ i (n .after)
+unfolding raised
+after-first g [] (m ∷ ms) here h i l = Memᴰ·append-left _ (lt-below g i l)
+after-first g [] (m ∷ ms) (there a) h i l = after-first g [] ms a (omega arith) i l
+after-first g (n ∷ ns) ms here h i l = absurd (omega arith)
+after-first g (n ∷ ns) ms (there a) h i l = after-first g ns ms a (omega arith) i l
+
+pub first-before-second : FirstBeforeSecond
+unfolding goalsOf join
+first-before-second a b i j p q h k l m =
+    let x = goal-at 0 _ h in
+    let y = goal-at 0 _ k in
+    by-row (x .0 ∙ sym (y .0)) (rw (x .1, zero-add, y .2 .2) (after-first _ (a .goals) (b .goals) (y .2 .1) m i l))
