@@ -1,0 +1,6 @@
+-- Laws of the definitions in the shape that the code asks for.
+pub mod Laws
+pub mod Counts
+pub mod Lookup
+pub mod Scans
+pub mod Checks

@@ -1,0 +1,271 @@
+// The three checks: number and place of the first question that fails, or 0 and 0. Document 01, "Questions".
+use crate::position::Sheet;
+use crate::rows::Layout;
+use crate::rows::Scan;
+use crate::rows::word;
+ghost use mathlib.Core.Path.{_≡_};
+ghost use Rattle.hgn.specs.Shop.{checkShop};
+ghost use Rattle.hgn.specs.Order.{orderQuestions, checkOrder};
+ghost use Rattle.hgn.specs.Trace.{traceQuestions, checkTrace};
+ghost use Rattle.sheets.specs.Answers.{answerOf, shopSizes, orderSizes, shopEnd, orderEnd};
+
+// A check's answer.
+pub struct Verdict {
+    pub number: u16,
+    pub place: u16,
+}
+
+// What a shop sheet may hold.
+pub struct Shop;
+
+impl Shop {
+    pub const SIZES: usize = 4;
+
+    pub const MOST_ATOMS: u16 = 256;
+
+    pub const MOST_ACTIONS: u16 = 255;
+
+    pub const MOST_METHODS: u16 = 255;
+}
+
+// What an order sheet may hold.
+pub struct Order;
+
+impl Order {
+    pub const SIZES: usize = 3;
+
+    pub const MOST_GOALS: u16 = 64;
+}
+
+// What a trace may hold.
+pub struct Trace;
+
+impl Trace {
+    pub const SIZES: usize = 1;
+
+    pub const MOST_STEPS: u16 = 4096;
+}
+
+// F, K, M and N of a shop sheet are in range.
+fn shop_sizes(atoms: u16, actions: u16, methods: u16, rows: u16) -> bool
+    ensures { λ r. ⌜ r ≡ shopSizes atoms actions methods rows ⌝ }
+{
+    if atoms < 1 {
+        return false;
+    }
+    if Shop::MOST_ATOMS < atoms {
+        return false;
+    }
+    if Shop::MOST_ACTIONS < actions {
+        return false;
+    }
+    if Shop::MOST_METHODS < methods {
+        return false;
+    }
+    rows <= Layout::MOST_ROWS
+}
+
+// F of an order sheet is the shop's, and G and N are in range.
+fn order_sizes(shop_atoms: u16, atoms: u16, goals: u16, rows: u16) -> bool
+    ensures { λ r. ⌜ r ≡ orderSizes «shop_atoms» atoms goals rows ⌝ }
+{
+    if atoms == shop_atoms {
+        if Order::MOST_GOALS < goals {
+            return false;
+        }
+        return rows <= Layout::MOST_ROWS;
+    }
+    false
+}
+
+// What is asked of a shop sheet after its rows.
+fn shop_end(scan: Scan, actions: u16, methods: u16) -> Verdict
+    ensures { λ r. ⌜ r ≡ answerOf (shopEnd scan actions methods) ⌝ }
+{
+    if scan.number == 0 {
+        let position = scan.position;
+        let context = position.context;
+        if context.may_end() {
+            let tally = scan.tally;
+            if tally.actions == actions {
+                if tally.methods == methods {
+                    let last = tally.closed();
+                    if last.found {
+                        return Verdict {
+                            number: 9,
+                            place: last.first,
+                        };
+                    }
+                    return Verdict {
+                        number: 0,
+                        place: 0,
+                    };
+                }
+            }
+            return Verdict {
+                number: 8,
+                place: 0,
+            };
+        }
+        return Verdict {
+            number: 7,
+            place: 0,
+        };
+    }
+    Verdict {
+        number: scan.number,
+        place: scan.place,
+    }
+}
+
+// What is asked of an order sheet after its rows.
+fn order_end(scan: Scan, goals: u16) -> Verdict
+    ensures { λ r. ⌜ r ≡ answerOf (orderEnd scan goals) ⌝ }
+{
+    if scan.number == 0 {
+        let position = scan.position;
+        let context = position.context;
+        if context.may_end() {
+            if position.nodes == goals {
+                return Verdict {
+                    number: 0,
+                    place: 0,
+                };
+            }
+            return Verdict {
+                number: 18,
+                place: 0,
+            };
+        }
+        return Verdict {
+            number: 17,
+            place: 0,
+        };
+    }
+    Verdict {
+        number: scan.number,
+        place: scan.place,
+    }
+}
+
+// Questions 1 to 9.
+pub fn check_shop(shop: &[u16]) -> Verdict
+    ensures { λ r. ⌜ r ≡ answerOf (checkShop (now (shop .entry))) ⌝ }
+{
+    if shop.len() < Shop::SIZES {
+        return Verdict {
+            number: 1,
+            place: 0,
+        };
+    }
+    let atoms = shop[0];
+    let actions = shop[1];
+    let methods = shop[2];
+    let rows = shop[3];
+    if shop_sizes(atoms, actions, methods, rows) {
+        let count = rows as usize;
+        if shop.len() == Shop::SIZES + 2 * count {
+            let layout = Layout {
+                sizes: Shop::SIZES,
+                rows: count,
+            };
+            let scan = layout.scan(shop, Sheet::Shop, atoms);
+            return shop_end(scan, actions, methods);
+        }
+        return Verdict {
+            number: 3,
+            place: 0,
+        };
+    }
+    Verdict {
+        number: 2,
+        place: 0,
+    }
+}
+
+// Questions 11 to 18, of an order sheet for a shop sheet that passed.
+pub fn ask_order(shop: &[u16], order: &[u16]) -> Verdict
+    ensures { λ r. ⌜ r ≡ answerOf (orderQuestions (now (shop .entry)) (now (order .entry))) ⌝ }
+{
+    if order.len() < Order::SIZES {
+        return Verdict {
+            number: 11,
+            place: 0,
+        };
+    }
+    let shop_atoms = word(shop, 0);
+    let atoms = order[0];
+    let goals = order[1];
+    let rows = order[2];
+    if order_sizes(shop_atoms, atoms, goals, rows) {
+        let count = rows as usize;
+        if order.len() == Order::SIZES + 2 * count {
+            let layout = Layout {
+                sizes: Order::SIZES,
+                rows: count,
+            };
+            let scan = layout.scan(order, Sheet::Order, atoms);
+            return order_end(scan, goals);
+        }
+        return Verdict {
+            number: 13,
+            place: 0,
+        };
+    }
+    Verdict {
+        number: 12,
+        place: 0,
+    }
+}
+
+// Questions 21 to 23.
+pub fn ask_trace(trace: &[u16]) -> Verdict
+    ensures { λ r. ⌜ r ≡ answerOf (traceQuestions (now (trace .entry))) ⌝ }
+{
+    if trace.len() < Trace::SIZES {
+        return Verdict {
+            number: 21,
+            place: 0,
+        };
+    }
+    let steps = trace[0];
+    if Trace::MOST_STEPS < steps {
+        return Verdict {
+            number: 22,
+            place: 0,
+        };
+    }
+    let count = steps as usize;
+    if trace.len() == Trace::SIZES + 2 * count {
+        return Verdict {
+            number: 0,
+            place: 0,
+        };
+    }
+    Verdict {
+        number: 23,
+        place: 0,
+    }
+}
+
+// The shop sheet, then the order sheet.
+pub fn check_order(shop: &[u16], order: &[u16]) -> Verdict
+    ensures { λ r. ⌜ r ≡ answerOf (checkOrder (now (shop .entry)) (now (order .entry))) ⌝ }
+{
+    let first = check_shop(shop);
+    if first.number == 0 {
+        return ask_order(shop, order);
+    }
+    first
+}
+
+// The shop sheet, the order sheet, then the trace.
+pub fn check_trace(shop: &[u16], order: &[u16], trace: &[u16]) -> Verdict
+    ensures { λ r. ⌜ r ≡ answerOf (checkTrace (now (shop .entry)) (now (order .entry)) (now (trace .entry))) ⌝ }
+{
+    let first = check_order(shop, order);
+    if first.number == 0 {
+        return ask_trace(trace);
+    }
+    first
+}
