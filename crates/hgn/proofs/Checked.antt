@@ -43,7 +43,7 @@ unfolding checkOrder
 shop-of-order shop sheet e = andThen-passed _ _ e .0
 
 -- Every row passes its three questions; the first stands at this position.
-data Checked (follow : Context → List ℕ) (F : ℕ) : Position → List Row → Type 0 where
+pub data Checked (follow : Context → List ℕ) (F : ℕ) : Position → List Row → Type 0 where
   end : {p : Position} → Checked follow F p []
   next : {p : Position} {r : Row} {rs : List Row}
       → among (r .tag) (follow (p .context)) ≡ true → inRange F p (r .tag) (r .value) ≡ true → rises p (r .tag) (r .value) ≡ true
@@ -60,14 +60,14 @@ rows-checked follow q F i p (r ∷ rs) e =
     next (a .0) (b .0) (c .0) (rows-checked follow q F (suc i) _ rs (c .1))
 
 -- What a shop sheet that passes has passed.
-record ShopPassed (shop : List ℕ) : Type 0 where
+pub record ShopPassed (shop : List ℕ) : Type 0 where
   atoms : Shop.atomCount shop ≤ 256
-  rows : Checked shopFollow (Shop.atomCount shop) opening (Shop.shopRows shop)
+  pub rows : Checked shopFollow (Shop.atomCount shop) opening (Shop.shopRows shop)
   actions : length (domain shop .actions) ≤ 255
   methods : length (domain shop .methods) ≤ 255
-  rules : methodQuestions 0 (domain shop .methods) ≡ passed
+  pub rules : methodQuestions 0 (domain shop .methods) ≡ passed
 
-shop-passed : (shop : List ℕ) → checkShop shop ≡ passed → ShopPassed shop
+pub shop-passed : (shop : List ℕ) → checkShop shop ≡ passed → ShopPassed shop
 unfolding checkShop Shop.sizesInRange
 shop-passed shop e =
     let a = ask-passed _ _ _ _ (ask-passed _ _ _ _ e .1) in
@@ -89,6 +89,15 @@ shop-actions shop e = shop-passed shop e .actions
 
 pub shop-methods : (shop : List ℕ) → checkShop shop ≡ passed → length (domain shop .methods) ≤ 255
 shop-methods shop e = shop-passed shop e .methods
+
+-- As many actions and methods as the sheet says.
+pub shop-counts : (shop : List ℕ) → checkShop shop ≡ passed
+    → (length (domain shop .actions) ≡ Shop.actionCount shop) × (length (domain shop .methods) ≡ Shop.methodCount shop)
+unfolding checkShop
+shop-counts shop e =
+    let b = andThen-passed _ _ (ask-passed _ _ _ _ (ask-passed _ _ _ _ (ask-passed _ _ _ _ e .1) .1) .1) in
+    let c = simp and-eq-true-iff at (ask-passed _ _ _ _ (ask-passed _ _ _ _ (b .1) .1) .0) in
+    (eqb-true _ _ (c .0), eqb-true _ _ (c .1))
 
 -- What an order sheet that passes has passed.
 record OrderPassed (sheet : List ℕ) : Type 0 where
@@ -118,7 +127,7 @@ Afters n [] = Unit {0}
 Afters n (r ∷ rs) = (has 11 r ≡ true → suc (r .value) < n) × Afters (cond (has 7 r) (suc n) n) rs
 
 -- The rows up to the next action or method: none, or the first row, which opens neither, and those after it.
-up-to : (P : List Row → Type 0) (r : Row) (rs : List Row)
+pub up-to : (P : List Row → Type 0) (r : Row) (rs : List Row)
     → P [] → (has 1 r ≡ false → has 2 r ≡ false → P (r ∷ upTo opens rs)) → P (upTo opens (r ∷ rs))
 unfolding upTo
 up-to P r rs none more = go (has 1 r) (has 2 r) more
@@ -175,7 +184,7 @@ nodes-numbered n (r ∷ rs) a = go (has 7 r) (λ i. nodes-numbered i rs) (a .1)
     go false ih t = ih n t
 
 -- One of these numbers passes a test that all of them pass.
-among-all : (test : ℕ → Bool) (t : ℕ) (ts : List ℕ) → among t ts ≡ true → all test ts ≡ true → test t ≡ true
+pub among-all : (test : ℕ → Bool) (t : ℕ) (ts : List ℕ) → among t ts ≡ true → all test ts ≡ true → test t ≡ true
 unfolding among all
 among-all test t [] m a = cc
 among-all test t (u ∷ us) m a = go (eqb t u) refl (λ h. among-all test t us h (each .1)) m
@@ -227,7 +236,7 @@ kept test (y ∷ ys) {x} m = go (test y) refl (kept test ys) m
 module _ {A : Type 0} (t : ℕ) {F : ℕ} (f : List Row → A) (P : A → Type 0)
     (each : (p : Position) (v : ℕ) (rs : List Row) → inRange F p t v ≡ true → Checked shopFollow F (advance p t v) rs
     → P (f (row t v ∷ upTo opens rs))) where
-  block : {p : Position} {rs b : List Row} → Checked shopFollow F p rs → headed t b ≡ true → List·Memᴰ b (parts opens rs) → P (f b)
+  pub block : {p : Position} {rs b : List Row} → Checked shopFollow F p rs → headed t b ≡ true → List·Memᴰ b (parts opens rs) → P (f b)
   unfolding parts headed
   block end h m = absurd (List·Memᴰ·not-nil m)
   block {b = b} (next {p} {r} {rs} allowed range rise c) h m = go (opens r) (block c h) m
@@ -245,7 +254,7 @@ module _ {A : Type 0} (t : ℕ) {F : ℕ} (f : List Row → A) (P : A → Type 0
       subst P q (block c (k .0) (k .1))
 
 -- Every method is within its node rules.
-nodes-rules : (i : ℕ) (m : Method) (ms : List Method) → methodQuestions i ms ≡ passed → List·Memᴰ m ms → nodeRules m ≡ true
+pub nodes-rules : (i : ℕ) (m : Method) (ms : List Method) → methodQuestions i ms ≡ passed → List·Memᴰ m ms → nodeRules m ≡ true
 unfolding methodQuestions
 nodes-rules i m [] e k = absurd (List·Memᴰ·not-nil k)
 nodes-rules i m (n ∷ ns) e (List·Memᴰ·head q) = rw q (ask-passed _ _ _ _ e .0)
@@ -292,7 +301,7 @@ last-after-all i (n ∷ m ∷ k ∷ ns) h =
     let r = last-after-all (suc i) (m ∷ k ∷ ns) (omega arith) in
     (r .0, r .1 ∙ ap below (omega arith))
 
-one-alternative : (f : Formula) → length f ≡ 1 → f ≡ headD f [] ∷ []
+pub one-alternative : (f : Formula) → length f ≡ 1 → f ≡ headD f [] ∷ []
 unfolding headD
 one-alternative [] e = absurd (omega arith)
 one-alternative (c ∷ []) e = refl
@@ -315,7 +324,7 @@ unfolding domain domainOf actionOf firstValue inRange
 action-cost shop e a k = blocks 1 actionOf (λ a. a .cost ≤ 65535) (λ p v rs g c. leb-true _ _ g) (shop-passed shop e .rows) k
 
 -- The literals of the rows up to the next action or method: none, or the first row's and those of the rows after it.
-literal-cases : (t f : ℕ) (P : List Literal → Type 0) (r : Row) (rs : List Row) → P []
+pub literal-cases : (t f : ℕ) (P : List Literal → Type 0) (r : Row) (rs : List Row) → P []
     → (r .tag ≡ t → P (record { sign = true; atom = r .value } ∷ literals t f (upTo opens rs)))
     → (r .tag ≡ f → P (record { sign = false; atom = r .value } ∷ literals t f (upTo opens rs)))
     → (has 1 r ≡ false → has 2 r ≡ false → has t r ≡ false → has f r ≡ false → P (literals t f (upTo opens rs)))

@@ -1,6 +1,7 @@
 -- What the definitions of `specs/` imply, from the tests up to the demands. `Demands` gathers it.
 pub mod Tests
 pub mod Checked
+pub mod Methods
 pub mod Joins
 pub mod Costs
 pub mod Effects

@@ -4,3 +4,6 @@ pub mod Counts
 pub mod Lookup
 pub mod Scans
 pub mod Checks
+pub mod Spans
+pub mod Fills
+pub mod Indexed

@@ -3,3 +3,4 @@ pub mod Reading
 pub mod Tally
 pub mod Scanned
 pub mod Answers
+pub mod Index
