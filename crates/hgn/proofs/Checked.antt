@@ -4,8 +4,10 @@ use Prim.Native.Nat.{ℕ, suc, _+_, _-_, _≤_, _<_}
 use mathlib.Core.Path.{_≡_, refl, sym, ap, _∙_, subst}
 use mathlib.Core.Bool.{Bool, true, false, cond, not, _||_, and-eq-true-iff, false≢true}
 use mathlib.Core.Logic.{_⊎_, inl, inr, ⊎-elim}
-use mathlib.Core.List.{List, [], _∷_, map, headD, List·Memᴰ, List·Memᴰ·head, List·Memᴰ·tail, List·Memᴰ·not-nil, List·Memᴰ·cases-cons, Memᴰ·of-map}
+use mathlib.Core.List.{List, [], _∷_, _++_, map, headD, List·Memᴰ, List·Memᴰ·head, List·Memᴰ·tail, List·Memᴰ·not-nil, List·Memᴰ·cases-cons, Memᴰ·of-map}
 use native.Mathlib.Omega.{arith}
+use native.Mathlib.Nat.{add-zero, zero-add, add-suc, suc-add}
+use native.Mathlib.Numerals.{add-one}
 use lib.Dec.{eqb, ltb}
 use lib.ListN.{length}
 use borrow.Author.Tests.{eqb-true, leb-true, ltb-true, not-true}
@@ -307,6 +309,17 @@ one-alternative [] e = absurd (omega arith)
 one-alternative (c ∷ []) e = refl
 one-alternative (c ∷ k ∷ f) e = absurd (omega arith)
 
+-- Every listed node but the last enters as it is listed.
+others-listed : (i : ℕ) (init : List Node) (last : Node)
+    → lastAfterAll i (init ++ (last ∷ [])) ≡ init ++ (record { after = below (i + length init); formula = last .formula } ∷ [])
+unfolding lastAfterAll
+others-listed i [] last = ap {B = List Node} (λ k. record { after = below k; formula = last .formula } ∷ []) (sym (add-zero i))
+others-listed i (n ∷ []) last = ap {B = List Node} (λ k. n ∷ record { after = below k; formula = last .formula } ∷ []) (sym (add-one i))
+others-listed i (n ∷ m ∷ init) last =
+    ap {B = List Node} (_∷_ n)
+    (others-listed (suc i) (m ∷ init) last
+    ∙ ap {B = List Node} (λ k. (m ∷ init) ++ (record { after = below k; formula = last .formula } ∷ [])) (suc-add i (length (m ∷ init)) ∙ sym (add-suc i (length (m ∷ init)))))
+
 -- A method's network ends in a node with the method's goal.
 pub methods-end-in-goals : MethodsEndInGoals
 unfolding networkOf nodeRules goalOf
@@ -316,6 +329,9 @@ methods-end-in-goals shop e m k =
     record {
       goal = r .0 ∙ one-alternative _ (omega (arith, eqb-true));
       after-others = r .1 ∙ ap below (omega (arith, length-lastAfterAll 0 (m .nodes)));
+      others = λ init last q.
+          ap (lastAfterAll 0) q ∙ others-listed 0 init last
+          ∙ ap {B = List Node} (λ j. init ++ (record { after = below j; formula = last .formula } ∷ [])) (zero-add (length init));
     }
 
 -- An action costs at most 65,535.

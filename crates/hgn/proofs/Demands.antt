@@ -1,7 +1,7 @@
 -- Every statement of the page `specs/Demands.antt` is proved. Assumes nothing.
 use Rattle.hgn.specs.Demands.{Proved}
 use Rattle.hgn.proofs.Cases.{marked-cases}
-use Rattle.hgn.proofs.Replayed.{demand-2}
+use Rattle.hgn.proofs.Replayed.{demand-1, demand-2}
 use Rattle.hgn.proofs.Cuts.{demand-3}
 use Rattle.hgn.proofs.Derivations.{accepted-is-derivation}
 use Rattle.hgn.proofs.Joins.{first-before-second}
@@ -13,6 +13,7 @@ use Rattle.hgn.proofs.Costs.{costs-are-bounded}
 pub proved : Proved
 proved = record {
   marked-cases = marked-cases;
+  demand-1 = demand-1;
   demand-2 = demand-2;
   demand-3 = demand-3;
   accepted-is-derivation = accepted-is-derivation;

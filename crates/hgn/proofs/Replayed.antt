@@ -19,7 +19,7 @@ use Rattle.hgn.specs.Shop.{domain}
 use Rattle.hgn.specs.Order.{order}
 use Rattle.hgn.specs.Trace.{stepCount, step, stepsOf}
 use Rattle.hgn.specs.Replay.{Replayed, refusal, acceptance, reported, checkReplay, replay}
-use Rattle.hgn.specs.Demands.{Derives, InputsPass, Accepts, Refuses, Demand2}
+use Rattle.hgn.specs.Demands.{Derives, InputsPass, Accepts, Refuses, Demand1, Demand2}
 use Rattle.hgn.proofs.Numbers.{Numbered, replay-numbered}
 use Rattle.hgn.proofs.Derivations.{derivation-runs, run-derives, plan-short}
 use Rattle.hgn.proofs.Waiting.{length-enter}
@@ -171,3 +171,8 @@ demand-2 shop sheet trace room = record {
   results = results shop sheet trace room;
   otherwise = otherwise shop sheet trace room (report shop sheet trace room);
 }
+
+-- A refusal of the sheets, and then one of the run, is the replay's.
+pub demand-1 : Demand1
+unfolding replay reported
+demand-1 shop sheet trace room = record { sheets = λ number place e. rw (e, replay); steps = λ number place e f. rw (e, replay, f) }

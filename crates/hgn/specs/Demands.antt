@@ -1,7 +1,7 @@
 -- What is proved of the definitions, each as a named type: the demands of document 00, and what document 01 and source
 -- document 000 say of networks, methods, effects and costs, quoted above each. A value of each stands in `proofs/`, gathered in
--- `proofs/Demands.antt`. Demand 1 is what the definitions of the checks and of `replay` say themselves, and becomes a statement
--- about calls when the calls land; demand 2's half on the search comes with the search.
+-- `proofs/Demands.antt`. That a call answers what a definition says is the call's contract. Demand 2's half on the search comes with
+-- the search.
 use Prim.Native.Nat.{ℕ, suc, _+_, _-_, _≤_, _<_}
 use mathlib.Core.Path.{_≡_}
 use mathlib.Core.Bool.{true, false}
@@ -10,18 +10,31 @@ use mathlib.Core.List.{List, [], _∷_, _++_, List·Memᴰ}
 use lib.ListN.{length, getD, take, drop}
 use mathlib.Core.Option.{some}
 use Rattle.hgn.specs.Lists.{At, below}
-use Rattle.hgn.specs.Meaning.{Literal, Action, Method, Domain, Order, lastOf, goalOf, networkOf}
+use Rattle.hgn.specs.Meaning.{Literal, Node, Action, Method, Domain, Order, lastOf, goalOf, networkOf}
 use Rattle.hgn.specs.State.{State, mostAtoms, emptyState, γ, byRows}
 use Rattle.hgn.specs.Network.{Waiting, step, free, enter, goalsOf, released, decomposed, mostWaiting}
-use Rattle.hgn.specs.Run.{Step, taken, stepped, startOf, costOf}
+use Rattle.hgn.specs.Run.{Step, taken, stepped, stopped, run, startOf, costOf}
 use Rattle.hgn.specs.Join.{Accepted, Cut, join}
-use Rattle.hgn.specs.Verdict.{passed}
+use Rattle.hgn.specs.Verdict.{passed, refused}
 use Rattle.hgn.specs.Shop.{domain, checkShop}
 use Rattle.hgn.specs.Order.{order, checkOrder}
 use Rattle.hgn.specs.Trace.{stepCount, mostSteps, stepsOf, checkTrace}
-use Rattle.hgn.specs.Replay.{Replayed, replay}
+use Rattle.hgn.specs.Replay.{Replayed, refusal, checkReplay, replay}
 use Rattle.hgn.specs.Definition1.{Derivation, Listed, Precedes, Unconstrained}
 use Rattle.hgn.specs.Cases.{MarkedCases}
+
+-- Demand 1, of the replay's definition. "Where a sheet, trace or depth is malformed in any way or lent room is too short, the public
+-- call gives the refusal number of document 01 for the first question it fails, writes nothing into lent memory, and stops."
+-- The first question that fails is what `checkReplay` and then `run` stop at.
+
+pub record RefusesAtFirst (shop sheet trace room : List ℕ) : Type 0 where
+  pub sheets : (number place : ℕ) → checkReplay shop sheet trace room ≡ refused number place → replay shop sheet trace room ≡ refusal room number place
+  pub steps : (number place : ℕ) → checkReplay shop sheet trace room ≡ passed
+      → run mostWaiting (domain shop) 0 (startOf (order sheet)) (goalsOf (order sheet)) (stepsOf trace) ≡ stopped number place
+      → replay shop sheet trace room ≡ refusal room number place
+
+abbrev pub Demand1 : Type 0
+Demand1 = (shop sheet trace room : List ℕ) → RefusesAtFirst shop sheet trace room
 
 -- Demand 2. "With sheets that pass and room for as many words of plan as the trace has steps, a trace is accepted if and only if
 -- it is a derivation under Definition 1 of source document 000, with at most 64 goals waiting at each moment; plan, cost and
@@ -159,6 +172,9 @@ OperationsAre000s = (shop : List ℕ) (o : Order) → FromSheets shop o → (lim
 pub record EndsInGoal (m : Method) : Type 0 where
   pub goal : lastOf (networkOf m) .formula ≡ goalOf m ∷ []
   pub after-others : lastOf (networkOf m) .after ≡ below (length (networkOf m) - 1)
+  -- Its other nodes are as listed.
+  pub others : (init : List Node) (last : Node) → m .nodes ≡ init ++ (last ∷ [])
+      → networkOf m ≡ init ++ (record { after = below (length init); formula = last .formula } ∷ [])
 
 abbrev pub MethodsEndInGoals : Type 0
 MethodsEndInGoals = (shop : List ℕ) → checkShop shop ≡ passed → (m : Method) → List·Memᴰ m (domain shop .methods) → EndsInGoal m
@@ -191,6 +207,7 @@ CostsAreBounded = (shop : List ℕ) → checkShop shop ≡ passed → (plan : Li
 -- All of it.
 pub record Proved : Type 0 where
   pub marked-cases : MarkedCases
+  pub demand-1 : Demand1
   pub demand-2 : Demand2
   pub demand-3 : Demand3
   pub accepted-is-derivation : AcceptedIsDerivation

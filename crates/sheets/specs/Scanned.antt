@@ -14,6 +14,7 @@ use Rattle.sheets.specs.declared.rows.Scan.{Scan}
 abbrev pub questionsOf : Sheet → ℕ → List Row → Verdict
 questionsOf sheet atoms rows = rowQuestions (followOf sheet) (firstQuestionOf sheet) atoms 0 opening rows
 
+-- Refused, the position and the counts are left free.
 pub record Scanned (sheet : Sheet) (atoms : ℕ) (rows : List Row) (r : Scan) : Type 0 where
   pub number : r .number ≡ numberOf (questionsOf sheet atoms rows)
   pub place : r .place ≡ placeOf (questionsOf sheet atoms rows)

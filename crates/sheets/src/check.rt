@@ -184,7 +184,7 @@ pub fn check_shop(shop: &[u16]) -> Verdict
 }
 
 // Questions 11 to 18, of an order sheet for a shop sheet that passed.
-pub fn ask_order(shop: &[u16], order: &[u16]) -> Verdict
+fn ask_order(shop: &[u16], order: &[u16]) -> Verdict
     ensures { λ r. ⌜ r ≡ answerOf (orderQuestions (now (shop .entry)) (now (order .entry))) ⌝ }
 {
     if order.len() < Order::SIZES {
@@ -219,7 +219,7 @@ pub fn ask_order(shop: &[u16], order: &[u16]) -> Verdict
 }
 
 // Questions 21 to 23.
-pub fn ask_trace(trace: &[u16]) -> Verdict
+fn ask_trace(trace: &[u16]) -> Verdict
     ensures { λ r. ⌜ r ≡ answerOf (traceQuestions (now (trace .entry))) ⌝ }
 {
     if trace.len() < Trace::SIZES {

@@ -21,8 +21,8 @@ pub struct Span {
     pub to: u16,
 }
 
-// Where each row's part ends, into `ends`, and where each action and method starts, into `starts`, with the end behind them.
-// From the last row to the first: `end` is the next row that begins an action, a method or a node.
+// For each row, into `ends`, the next row that begins an action, a method or a node; and where each action and method starts, into
+// `starts`, with the end behind them. From the last row to the first: `end` is that next row.
 pub fn fill(words: &[u16], layout: Layout, ends: &mut [u16], starts: &mut [u16], blocks: usize)
     requires { ⌜ Indexable (now words) layout (now ends) (now starts) blocks ⌝ }
     ensures { λ _. ⌜ now (ends .exit) ≡ Index.ends 0 (rowsOf (layout .sizes) (layout .rows) (now (words .entry))) ++ drop (layout .rows) (now (ends .entry)) ⌝ }

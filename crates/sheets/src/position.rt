@@ -3,9 +3,22 @@
 use crate::tag;
 ghost use mathlib.Core.Path.{_≡_};
 ghost use Prim.Native.Nat.{_<_};
+ghost use lib.Dec.{ltb};
 ghost use Rattle.hgn.specs.Lists.{among};
 ghost use Rattle.hgn.specs.Tag.{contextAfter, mayEnd, leastHere, inRange, rises, advance, opening};
 ghost use Rattle.sheets.specs.Reading.{contextOf, positionOf, followOf, firstQuestionOf, readingOf, rowReading};
+
+// An atom by its number.
+pub struct Atom(pub u16);
+
+impl Atom {
+    // One of the sheet's atoms, of which there are so many.
+    pub fn below(self, atoms: u16) -> bool
+        ensures { λ r. ⌜ r ≡ ltb (self .0) atoms ⌝ }
+    {
+        self.0 < atoms
+    }
+}
 
 // The two sheets that have rows.
 pub enum Sheet {
@@ -198,7 +211,7 @@ impl Position {
             let nodes = self.nodes;
             return (value as u32) + 1 < (nodes as u32);
         }
-        value < atoms
+        Atom(value).below(atoms)
     }
 
     // The value is above the one before it in its group.

@@ -18,8 +18,8 @@ pub struct Layout {
     pub rows: usize,
 }
 
-// What one pass over the rows comes to: the first question that fails and its row, or 0 with the position
-// at its end and what was counted.
+// What one pass over the rows comes to: 0 with the position at the end and what was counted, or the first question that fails and
+// its row; then position and counts are left free.
 pub struct Scan {
     pub number: u16,
     pub place: u16,

@@ -17,4 +17,5 @@ in-range-spec =
     (λ c. search needs)
     (λ c. search needs)
     (λ c. rw add-one (search decided))
+    (λ c κs. search needs)
     (λ c. search decided))
