@@ -1,0 +1,14 @@
+// Runs cases of the public calls and writes a line for each: the call, the case's name, and what was answered.
+mod line;
+mod order;
+mod sheet;
+mod shop;
+mod table;
+mod text;
+mod trace;
+
+fn main() {
+    shop::run();
+    order::run();
+    trace::run();
+}

@@ -1,0 +1,29 @@
+// Parts of a text.
+ghost use Prim.Native.Nat.{_<_};
+ghost use lib.ListN.{length};
+
+// Where a byte stands after `from`, or the text's length.
+pub fn find(text: &[u8], from: usize, byte: u8) -> usize
+    ensures { λ r. ⌜ (from < length (now (text .entry)) → from < r) ⌝ }
+{
+    let mut at = from;
+    while at < text.len() {
+        at += 1;
+        if at < text.len() {
+            if text[at] == byte {
+                return at;
+            }
+        }
+    }
+    at
+}
+
+// The bytes between two places, neither among them.
+pub fn between(text: &[u8], from: usize, to: usize) -> &[u8] {
+    if from < to {
+        if to <= text.len() {
+            return &text[from + 1..to];
+        }
+    }
+    &text[0..0]
+}
