@@ -262,7 +262,7 @@ nodes-rules i m [] e k = absurd (List·Memᴰ·not-nil k)
 nodes-rules i m (n ∷ ns) e (List·Memᴰ·head q) = rw q (ask-passed _ _ _ _ e .0)
 nodes-rules i m (n ∷ ns) e (List·Memᴰ·tail k) = nodes-rules (suc i) m ns (ask-passed _ _ _ _ e .1) k
 
-length-lastAfterAll : (i : ℕ) (ns : List Node) → length (lastAfterAll i ns) ≡ length ns
+pub length-lastAfterAll : (i : ℕ) (ns : List Node) → length (lastAfterAll i ns) ≡ length ns
 unfolding lastAfterAll
 length-lastAfterAll i [] = refl
 length-lastAfterAll i (n ∷ []) = refl

@@ -145,11 +145,11 @@ module _ (shop : List ℕ) (e : Shop.checkShop shop ≡ passed) where
   shop-fits : Shop.sizeWords + (Shop.rowCount shop + Shop.rowCount shop) ≤ length shop
   shop-fits = omega (arith, shop-passed shop e .size)
 
-  actions-length : length actions ≡ Shop.actionCount shop
+  pub actions-length : length actions ≡ Shop.actionCount shop
   unfolding Shop.domain domainOf
   actions-length = sym (length-map actions actionOf) ∙ shop-passed shop e .actions
 
-  methods-length : length methods ≡ Shop.methodCount shop
+  pub methods-length : length methods ≡ Shop.methodCount shop
   unfolding Shop.domain domainOf
   methods-length = sym (length-map methods methodOf) ∙ shop-passed shop e .methods
 

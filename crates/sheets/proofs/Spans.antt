@@ -39,7 +39,7 @@ module _ {A : Type 0} (q : A → Bool) where
   upto-next (x ∷ xs) d h = by-test (q x) (λ e. rw e e) (λ e. rw e (upto-next xs d (le-of-suc-le-suc (rw e at h))))
 
   -- Up to the first that passes `q`, and of those up to the first that passes `p`: up to the first that passes either.
-  upto-upto : (p : A → Bool) (xs : List A) → upTo p (upTo q xs) ≡ upTo (λ x. q x || p x) xs
+  pub upto-upto : (p : A → Bool) (xs : List A) → upTo p (upTo q xs) ≡ upTo (λ x. q x || p x) xs
   unfolding upTo
   upto-upto p [] = refl
   upto-upto p (x ∷ xs) =

@@ -1,0 +1,84 @@
+-- The literals of the rows with two tags, and the values of those with one, row by row. Assumes nothing.
+use Prim.Native.Nat.{ℕ, _≤_}
+use mathlib.Core.Path.{_≡_, refl, ap, _∙_}
+use mathlib.Core.Bool.{Bool, true, false, cond, _&&_, _||_}
+use mathlib.Core.List.{List, [], _∷_, _++_}
+use lib.ListN.{length, set}
+use lib.Seq.{set-out}
+use borrow.Author.Tests.{eq-eqb, ne-eqb}
+use Rattle.hgn.specs.Rows.{Row, row, has, valuesOf}
+use Rattle.hgn.specs.Meaning.{Literal, literals}
+use Rattle.hgn.specs.State.{State, assign, literalHolds, allHold, contains}
+use Rattle.hgn.proofs.Tests.{all-append, any-append}
+
+abbrev pub allHoldIn : State → ℕ → ℕ → List Row → Bool
+allHoldIn s t f rs = allHold s (literals t f rs)
+
+abbrev pub containedIn : Literal → ℕ → ℕ → List Row → Bool
+containedIn l t f rs = contains (literals t f rs) l
+
+abbrev pub assignedIn : Bool → ℕ → State → List Row → State
+assignedIn b t s rs = assign b (valuesOf t rs) s
+
+module _ (t f : ℕ) where
+  -- A row's literal is a true one, a false one, or none.
+  module _ {tag : ℕ} (value : ℕ) (rs : List Row) where
+    pub true-row : tag ≡ t → literals t f (row tag value ∷ rs) ≡ record { sign = true; atom = value } ∷ literals t f rs
+    unfolding literals
+    true-row e = rw (eq-eqb tag t e)
+
+    pub false-row : (tag ≡ t → ⊥) → tag ≡ f → literals t f (row tag value ∷ rs) ≡ record { sign = false; atom = value } ∷ literals t f rs
+    unfolding literals
+    false-row d e = rw (ne-eqb tag t d, eq-eqb tag f e)
+
+    pub no-row : (tag ≡ t → ⊥) → (tag ≡ f → ⊥) → literals t f (row tag value ∷ rs) ≡ literals t f rs
+    unfolding literals
+    no-row d e = rw (ne-eqb tag t d, ne-eqb tag f e)
+
+  -- A row's literal stands before those of the rows after it.
+  pub first-row : (r : Row) (rs : List Row) → literals t f (r ∷ rs) ≡ literals t f (r ∷ []) ++ literals t f rs
+  unfolding literals
+  first-row r rs = go (has t r) (has f r)
+    where
+      go : (a b : Bool) → cond a (record { sign = true; atom = r .value } ∷ literals t f rs) (cond b (record { sign = false; atom = r .value } ∷ literals t f rs) (literals t f rs))
+          ≡ cond a (record { sign = true; atom = r .value } ∷ []) (cond b (record { sign = false; atom = r .value } ∷ []) []) ++ literals t f rs
+      go true b = refl
+      go false true = refl
+      go false false = refl
+
+  -- What is told of a row decides of it and the rows after it, or leaves it to those.
+  module _ {told : Bool} (r : Row) (rs : List Row) where
+    module _ (s : State) (e : told ≡ allHoldIn s t f (r ∷ [])) where
+      pub all-first : allHoldIn s t f (r ∷ rs) ≡ (told && allHoldIn s t f rs)
+      unfolding allHold
+      all-first = ap (allHold s) (first-row r rs) ∙ all-append (literalHolds s) (literals t f (r ∷ [])) (literals t f rs) ∙ rw (← e)
+
+      pub first-holds : told ≡ true → allHoldIn s t f (r ∷ rs) ≡ allHoldIn s t f rs
+      first-holds h = rw (all-first, h)
+
+      pub first-fails : told ≡ false → allHoldIn s t f (r ∷ rs) ≡ false
+      first-fails h = rw (all-first, h)
+
+    module _ (l : Literal) (e : told ≡ containedIn l t f (r ∷ [])) where
+      any-first : containedIn l t f (r ∷ rs) ≡ (told || containedIn l t f rs)
+      unfolding contains
+      any-first = ap (λ (ls : List Literal). contains ls l) (first-row r rs) ∙ any-append _ (literals t f (r ∷ [])) (literals t f rs) ∙ rw (← e)
+
+      pub first-is : told ≡ true → containedIn l t f (r ∷ rs) ≡ true
+      first-is h = rw (any-first, h)
+
+      pub first-is-not : told ≡ false → containedIn l t f (r ∷ rs) ≡ containedIn l t f rs
+      first-is-not h = rw (any-first, h)
+
+-- A row's value is assigned before those of the rows after it, or it has another tag, or it is no atom.
+module _ (b : Bool) (tag : ℕ) (s : State) (t v : ℕ) (rs : List Row) where
+  pub assigned-first : t ≡ tag → assignedIn b tag s (row t v ∷ rs) ≡ assignedIn b tag (set s v b) rs
+  unfolding valuesOf assign
+  assigned-first e = rw (eq-eqb t tag e)
+
+  pub assigned-other : (t ≡ tag → ⊥) → assignedIn b tag s (row t v ∷ rs) ≡ assignedIn b tag s rs
+  unfolding valuesOf
+  assigned-other d = rw (ne-eqb t tag d)
+
+  pub assigned-none : t ≡ tag → length s ≤ v → assignedIn b tag s (row t v ∷ rs) ≡ assignedIn b tag s rs
+  assigned-none e h = assigned-first e ∙ ap (assign b (valuesOf tag rs)) (set-out s v b h)

@@ -1,0 +1,58 @@
+// States, as a set of atoms. Document 01, "How a derivation runs".
+use crate::part;
+use sheets::position::Atom;
+ghost use mathlib.Core.Path.{_≡_};
+ghost use mathlib.Core.List.{zipWith};
+ghost use Rattle.hgn.specs.Rows.{row, valuesOf};
+ghost use Rattle.hgn.specs.State.{emptyState, literalHolds, assign};
+
+// For each atom, whether it is in.
+pub struct State {
+    pub atoms: [bool; 256],
+}
+
+impl State {
+    // The most atoms of a shop sheet.
+    pub const MOST: usize = 256;
+
+    pub fn empty() -> State
+        ensures { λ r. ⌜ r .atoms ≡ emptyState ⌝ }
+    {
+        State {
+            atoms: [false; 256],
+        }
+    }
+}
+
+// The literal, an atom and its sign, holds.
+pub fn holds(atoms: &[bool; 256], atom: Atom, sign: bool) -> bool
+    ensures { λ r. ⌜ r ≡ literalHolds (now (atoms .entry)) (record { sign = sign; atom = atom .0 }) ⌝ }
+{
+    let at = atom.0 as usize;
+    // As a slice: an array behind a reference does not tell a proof its length.
+    let list: &[bool] = atoms;
+    if at < list.len() {
+        return list[at] == sign;
+    }
+    false == sign
+}
+
+// The atoms in the values of the rows with this tag, put in (true) or taken out (false).
+pub fn assigned(atoms: [bool; 256], tags: &[u16], values: &[u16], tag: u16, to: bool) -> [bool; 256]
+    ensures { λ r. ⌜ r ≡ assign to (valuesOf tag (zipWith row (now (tags .entry)) (now (values .entry)))) atoms ⌝ }
+{
+    let n = part::rows(tags, values);
+    let mut next = atoms;
+    let mut i = 0;
+    while i < n {
+        let row = i;
+        i += 1;
+        if tags[row] == tag {
+            let at = values[row] as usize;
+            if at < State::MOST {
+                next[at] = to;
+            }
+        }
+    }
+    next
+}
