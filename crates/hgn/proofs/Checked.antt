@@ -51,7 +51,7 @@ pub data Checked (follow : Context → List ℕ) (F : ℕ) : Position → List R
       → among (r .tag) (follow (p .context)) ≡ true → inRange F p (r .tag) (r .value) ≡ true → rises p (r .tag) (r .value) ≡ true
       → Checked follow F (advance p (r .tag) (r .value)) rs → Checked follow F p (r ∷ rs)
 
-rows-checked : (follow : Context → List ℕ) (q F i : ℕ) (p : Position) (rs : List Row)
+pub rows-checked : (follow : Context → List ℕ) (q F i : ℕ) (p : Position) (rs : List Row)
     → rowQuestions follow q F i p rs ≡ passed → Checked follow F p rs
 unfolding rowQuestions
 rows-checked follow q F i p [] e = end
@@ -105,6 +105,7 @@ shop-counts shop e =
 record OrderPassed (sheet : List ℕ) : Type 0 where
   rows : Checked orderFollow (Order.atomCount sheet) opening (Order.orderRows sheet)
   goals : length (order sheet .goals) ≤ 64
+  counted : length (order sheet .goals) ≡ Order.goalCount sheet
 
 order-passed : (shop sheet : List ℕ) → checkOrder shop sheet ≡ passed → OrderPassed sheet
 unfolding checkOrder Order.orderQuestions Order.sizesInRange
@@ -113,10 +114,14 @@ order-passed shop sheet e =
     let b = andThen-passed _ _ (ask-passed _ _ _ _ (a .1) .1) in
     let c = ask-passed _ _ _ _ (ask-passed _ _ _ _ (b .1) .1) in
     let sizes = simp and-eq-true-iff at (a .0) in
-    record { rows = rows-checked _ _ _ _ _ _ (b .0); goals = omega (arith, leb-true, eqb-true) }
+    record { rows = rows-checked _ _ _ _ _ _ (b .0); goals = omega (arith, leb-true, eqb-true); counted = eqb-true _ _ (c .0) }
 
 pub order-goals : (shop sheet : List ℕ) → checkOrder shop sheet ≡ passed → length (order sheet .goals) ≤ 64
 order-goals shop sheet e = order-passed shop sheet e .goals
+
+-- As many goals as the sheet says.
+pub order-count : (shop sheet : List ℕ) → checkOrder shop sheet ≡ passed → length (order sheet .goals) ≡ Order.goalCount sheet
+order-count shop sheet e = order-passed shop sheet e .counted
 
 -- Node `i` of a network comes only after lower nodes; these are its nodes from node `i` on.
 abbrev pub Numbered : ℕ → List Node → Type 0

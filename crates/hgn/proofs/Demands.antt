@@ -1,13 +1,14 @@
 -- Every statement of the page `specs/Demands.antt` is proved. Assumes nothing.
 use Rattle.hgn.specs.Demands.{Proved}
 use Rattle.hgn.proofs.Cases.{marked-cases}
-use Rattle.hgn.proofs.Replayed.{demand-1, demand-2}
+use Rattle.hgn.proofs.Asked.{demand-1}
+use Rattle.hgn.proofs.Replayed.{demand-2}
 use Rattle.hgn.proofs.Cuts.{demand-3}
 use Rattle.hgn.proofs.Derivations.{accepted-is-derivation}
 use Rattle.hgn.proofs.Joins.{first-before-second}
 use Rattle.hgn.proofs.Orders.{networks-are-ordered, operations-are-000s}
 use Rattle.hgn.proofs.Checked.{methods-end-in-goals}
-use Rattle.hgn.proofs.Effects.{effects-are-gamma}
+use Rattle.hgn.proofs.Effects.{effects-are-gamma, states-are-sets}
 use Rattle.hgn.proofs.Costs.{costs-are-bounded}
 
 pub proved : Proved
@@ -22,5 +23,6 @@ proved = record {
   operations-are-000s = operations-are-000s;
   methods-end-in-goals = methods-end-in-goals;
   effects-are-gamma = effects-are-gamma;
+  states-are-sets = states-are-sets;
   costs-are-bounded = costs-are-bounded;
 }

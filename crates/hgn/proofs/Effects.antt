@@ -6,14 +6,17 @@ use mathlib.Core.Logic.{_↔_, inl, inr, ⊎-elim}
 use mathlib.Core.List.{List, [], _∷_, List·Memᴰ, List·Memᴰ·head, List·Memᴰ·tail}
 use native.Mathlib.Omega.{arith}
 use lib.Dec.{eqb}
-use lib.ListN.{length, getD, set, length-set}
+use lib.ListN.{length, getD, set, replicate, length-set, length-replicate}
 use lib.Seq.{getD-set-same, getD-set-other, set-comm}
 use borrow.Author.Tests.{eqb-true, eqb-false, eq-eqb}
 use Rattle.hgn.specs.Lists.{any, among}
-use Rattle.hgn.specs.Meaning.{Literal}
-use Rattle.hgn.specs.State.{State, assign, atomsOf, γ, byRows}
-use Rattle.hgn.specs.Demands.{EffectsAreGamma, In, InEffect}
-use Rattle.hgn.proofs.Tests.{beq-true, eq-beq}
+use Rattle.hgn.specs.Meaning.{Literal, Domain, Order}
+use Rattle.hgn.specs.State.{State, mostAtoms, emptyState, assign, atomsOf, γ, byRows}
+use Rattle.hgn.specs.Network.{Waiting}
+use Rattle.hgn.specs.Run.{Move, startOf}
+use Rattle.hgn.specs.Demands.{EffectsAreGamma, In, InEffect, Reached, first, next, StatesAreSetsOfAtoms}
+use Rattle.hgn.proofs.Tests.{beq-true, eq-beq, replicate-default, among-true, true-among}
+use Rattle.hgn.proofs.Steps.{Moved, by-release, by-action, by-method, took}
 use Rattle.hgn.proofs.Checked.{Rising, effects-rise}
 
 length-assign : (b : Bool) (atoms : List ℕ) (s : State) → length (assign b atoms s) ≡ length s
@@ -101,3 +104,34 @@ effects-are-gamma shop e a m s h =
     let same = rows-γ 0 (a .effects) s (effects-rise shop e a m) in
     let sets : (p : ℕ) → p < 256 → In (γ s (a .effects)) p ↔ InEffect s (a .effects) p = λ p k. γ-set s (a .effects) p (rw h k) in
     record { by-sets = sets; by-rows = λ p k. rw same (sets p k); same = same }
+
+-- At first the state is the atoms of the 12 rows.
+start-rows : (o : Order) (p : ℕ) → p < mostAtoms → In (startOf o) p ↔ List·Memᴰ p (o .start)
+unfolding startOf emptyState
+start-rows o p h =
+    rw (getD-assign true (o .start) (replicate mostAtoms false) p (rw length-replicate h), replicate-default mostAtoms p false)
+    (λ e. among-true p (o .start) (go (among p (o .start)) e), λ m. rw (true-among p (o .start) m) refl)
+  where
+    go : (b : Bool) → cond b true false ≡ true → b ≡ true
+    go true e = refl
+    go false e = e
+
+moved-length : {limit : ℕ} {d : Domain} {n : ℕ} {s : State} {w : List Waiting} {p : ℕ} {m : Move} {done : List ℕ} {s′ : State} {w′ : List Waiting}
+    → Moved limit d n s w p m done s′ w′ → length s′ ≡ length s
+unfolding γ
+moved-length (by-release h) = refl
+moved-length {s = s} (by-action h r) = length-assign true _ _ ∙ length-assign false _ s
+moved-length (by-method h r l) = refl
+
+reached-whole : {limit : ℕ} {d : Domain} {o : Order} {n : ℕ} {s₀ s : State} {w : List Waiting} → Reached limit d s₀ o n s w
+    → length s ≡ length s₀
+reached-whole first = refl
+reached-whole (next {done = done} x r e) = moved-length (took x done _ _ e .by) ∙ reached-whole r
+
+pub states-are-sets : StatesAreSetsOfAtoms
+unfolding startOf emptyState
+states-are-sets o = record {
+  at-first = start-rows o;
+  first-whole = length-assign true (o .start) (replicate mostAtoms false) ∙ length-replicate mostAtoms false;
+  whole = λ limit n d s₀ s w r h. reached-whole r ∙ h;
+}

@@ -4,14 +4,15 @@ pub mod Checked
 pub mod Methods
 pub mod Joins
 pub mod Costs
-pub mod Effects
 pub mod Numbers
 pub mod Steps
+pub mod Effects
 pub mod Moves
 pub mod Waiting
 pub mod Runs
 pub mod Derivations
 pub mod Replayed
+pub mod Asked
 pub mod Reached
 pub mod Orders
 pub mod Embedding
@@ -20,3 +21,8 @@ pub mod Renaming
 pub mod Cuts
 pub mod Cases
 pub mod Demands
+pub mod Limits
+pub mod Traces
+pub mod Sheets
+pub mod Starts
+pub mod JoinSheets

@@ -19,7 +19,7 @@ use Rattle.hgn.specs.Shop.{domain}
 use Rattle.hgn.specs.Order.{order}
 use Rattle.hgn.specs.Trace.{stepCount, step, stepsOf}
 use Rattle.hgn.specs.Replay.{Replayed, refusal, acceptance, reported, checkReplay, replay}
-use Rattle.hgn.specs.Demands.{Derives, InputsPass, Accepts, Refuses, Demand1, Demand2}
+use Rattle.hgn.specs.Demands.{Derives, InputsPass, Accepts, Refuses, Demand2}
 use Rattle.hgn.proofs.Numbers.{Numbered, replay-numbered}
 use Rattle.hgn.proofs.Derivations.{derivation-runs, run-derives, plan-short}
 use Rattle.hgn.proofs.Waiting.{length-enter}
@@ -31,7 +31,7 @@ abbrev StepNumbered : Stepped → Type 0
 StepNumbered (Run.refused number) = number ≢ 0
 StepNumbered (taken done s w) = Unit {0}
 
-abbrev RunNumbered : Outcome → Type 0
+abbrev pub RunNumbered : Outcome → Type 0
 RunNumbered (stopped number place) = number ≢ 0
 RunNumbered (accepted plan s) = Unit {0}
 
@@ -57,7 +57,7 @@ module _ (limit : ℕ) (d : Domain) where
   prepend-numbered done (stopped number place) h = h
   prepend-numbered done (accepted plan s) h = tt
 
-  run-numbered : (n : ℕ) (s : State) (w : List Waiting) (xs : List Step) → RunNumbered (run limit d n s w xs)
+  pub run-numbered : (n : ℕ) (s : State) (w : List Waiting) (xs : List Step) → RunNumbered (run limit d n s w xs)
   unfolding run ended
   run-numbered n s [] [] = tt
   run-numbered n s (g ∷ w) [] = omega arith
@@ -97,7 +97,7 @@ module _ (shop sheet trace room : List ℕ) where
   unfolding checkReplay
   passed-inputs e = let r = both-passed _ _ e in (r .0, leb-true _ _ (r .1))
 
-  inputs-passed : InputsPass shop sheet trace room → checkReplay shop sheet trace room ≡ passed
+  pub inputs-passed : InputsPass shop sheet trace room → checkReplay shop sheet trace room ≡ passed
   unfolding checkReplay andThen ask
   inputs-passed r = rw (r .0, le-leb _ _ (r .1))
 
@@ -171,8 +171,3 @@ demand-2 shop sheet trace room = record {
   results = results shop sheet trace room;
   otherwise = otherwise shop sheet trace room (report shop sheet trace room);
 }
-
--- A refusal of the sheets, and then one of the run, is the replay's.
-pub demand-1 : Demand1
-unfolding replay reported
-demand-1 shop sheet trace room = record { sheets = λ number place e. rw (e, replay); steps = λ number place e f. rw (e, replay, f) }

@@ -9,7 +9,7 @@ use mathlib.Core.Logic.{_↔_, _⊎_, inl, inr, ⊎-elim}
 use mathlib.Core.List.{List, [], _∷_, _++_, List·Memᴰ, List·Memᴰ·head, List·Memᴰ·tail, List·Memᴰ·not-nil, List·Memᴰ·eq-of-singleton, Memᴰ·cast, Memᴰ·append-left, Memᴰ·append-right, List·Memᴰ·append-cases, flatten}
 use mathlib.Core.Option.{Option, none, some}
 use lib.Dec.{eqb, ltb}
-use lib.ListN.{length, getD}
+use lib.ListN.{length, getD, replicate}
 use borrow.Author.Tests.{eqb-true, eq-eqb, not-true, ltb-true, ltb-false}
 use Rattle.hgn.specs.Lists.{any, all, among, below, At, here, there}
 use Rattle.hgn.specs.Meaning.{Literal, Formula}
@@ -107,6 +107,12 @@ module _ {A : Type 0} (test : A → Bool) where
       regroup : (a b c : Bool) → (a || (b || c)) ≡ (a || b || c)
       regroup true b c = refl
       regroup false b c = refl
+
+-- A list of one value, read anywhere with that value as default.
+pub replicate-default : {A : Type 0} (n p : ℕ) (a : A) → getD (replicate n a) p a ≡ a
+replicate-default zero p a = refl
+replicate-default (suc n) zero a = refl
+replicate-default (suc n) (suc p) a = replicate-default n p a
 
 pub among-true : (n : ℕ) (ns : List ℕ) → among n ns ≡ true → List·Memᴰ n ns
 unfolding among

@@ -13,25 +13,34 @@ use Rattle.hgn.specs.Lists.{At, below}
 use Rattle.hgn.specs.Meaning.{Literal, Node, Action, Method, Domain, Order, lastOf, goalOf, networkOf}
 use Rattle.hgn.specs.State.{State, mostAtoms, emptyState, γ, byRows}
 use Rattle.hgn.specs.Network.{Waiting, step, free, enter, goalsOf, released, decomposed, mostWaiting}
-use Rattle.hgn.specs.Run.{Step, taken, stepped, stopped, run, startOf, costOf}
+use Rattle.hgn.specs.Run.{Step, taken, stepped, startOf, costOf}
 use Rattle.hgn.specs.Join.{Accepted, Cut, join}
-use Rattle.hgn.specs.Verdict.{passed, refused}
+use Rattle.hgn.specs.Verdict.{Verdict, passed, refused}
 use Rattle.hgn.specs.Shop.{domain, checkShop}
 use Rattle.hgn.specs.Order.{order, checkOrder}
 use Rattle.hgn.specs.Trace.{stepCount, mostSteps, stepsOf, checkTrace}
-use Rattle.hgn.specs.Replay.{Replayed, refusal, checkReplay, replay}
+use Rattle.hgn.specs.Replay.{Replayed, refusal, replay}
+use Rattle.hgn.specs.Questions.{Question, shopAsked, orderAsked, traceAsked, asked, FirstNo, AllYes}
 use Rattle.hgn.specs.Definition1.{Derivation, Listed, Precedes, Unconstrained}
 use Rattle.hgn.specs.Cases.{MarkedCases}
 
--- Demand 1, of the replay's definition. "Where a sheet, trace or depth is malformed in any way or lent room is too short, the public
--- call gives the refusal number of document 01 for the first question it fails, writes nothing into lent memory, and stops."
--- The first question that fails is what `checkReplay` and then `run` stop at.
+-- Demand 1, of the definitions. "Where a sheet, trace or depth is malformed in any way or lent room is too short, the public call
+-- gives the refusal number of document 01 for the first question it fails, writes nothing into lent memory, and stops."
+-- The questions are those of document 01 as `Questions` lists them.
 
+-- A check of sheets answers with the first no among these questions, and passes when there is none.
+pub record ChecksFirst (questions : List Question) (v : Verdict) : Type 0 where
+  pub refused-iff : (number place : ℕ) → FirstNo questions number place ↔ (v ≡ refused number place)
+  pub passed-iff : AllYes questions ↔ (v ≡ passed)
+
+-- A replay refuses with the first no, its room unchanged, and accepts when there is none. No question has the number 0.
 pub record RefusesAtFirst (shop sheet trace room : List ℕ) : Type 0 where
-  pub sheets : (number place : ℕ) → checkReplay shop sheet trace room ≡ refused number place → replay shop sheet trace room ≡ refusal room number place
-  pub steps : (number place : ℕ) → checkReplay shop sheet trace room ≡ passed
-      → run mostWaiting (domain shop) 0 (startOf (order sheet)) (goalsOf (order sheet)) (stepsOf trace) ≡ stopped number place
-      → replay shop sheet trace room ≡ refusal room number place
+  pub refused-iff : (number place : ℕ) → FirstNo (asked shop sheet trace room) number place
+      ↔ ((number ≢ 0) × (replay shop sheet trace room ≡ refusal room number place))
+  pub accepted-iff : AllYes (asked shop sheet trace room) ↔ (replay shop sheet trace room .answer .number ≡ 0)
+  pub shop-check : ChecksFirst (shopAsked shop) (checkShop shop)
+  pub order-check : ChecksFirst (shopAsked shop ++ orderAsked shop sheet) (checkOrder shop sheet)
+  pub trace-check : ChecksFirst (shopAsked shop ++ orderAsked shop sheet ++ traceAsked trace) (checkTrace shop sheet trace)
 
 abbrev pub Demand1 : Type 0
 Demand1 = (shop sheet trace room : List ℕ) → RefusesAtFirst shop sheet trace room
@@ -199,12 +208,24 @@ abbrev pub EffectsAreGamma : Type 0
 EffectsAreGamma = (shop : List ℕ) → checkShop shop ≡ passed → (a : Action) → List·Memᴰ a (domain shop .actions)
     → (s : State) → length s ≡ mostAtoms → Effect s (a .effects)
 
+-- Document 01: "A state is a set of atoms. At first the state is the atoms of the order's 12 rows". Every state that a run reaches from
+-- a state of 256 atoms is one, so that the effects above are those of its actions.
+
+pub record StatesAreSets (o : Order) : Type 0 where
+  pub at-first : (p : ℕ) → p < mostAtoms → In (startOf o) p ↔ List·Memᴰ p (o .start)
+  pub first-whole : length (startOf o) ≡ mostAtoms
+  pub whole : (limit n : ℕ) (d : Domain) (s₀ s : State) (w : List Waiting) → Reached limit d s₀ o n s w
+      → length s₀ ≡ mostAtoms → length s ≡ mostAtoms
+
+abbrev pub StatesAreSetsOfAtoms : Type 0
+StatesAreSetsOfAtoms = (o : Order) → StatesAreSets o
+
 -- Document 01: the cost is "at most 4,096 × 65,535 = 268,431,360".
 abbrev pub CostsAreBounded : Type 0
 CostsAreBounded = (shop : List ℕ) → checkShop shop ≡ passed → (plan : List ℕ) → length plan ≤ mostSteps
     → costOf (domain shop) plan ≤ 268_431_360
 
--- All of it.
+-- All of it; the search's half of demand 2 is yet to come.
 pub record Proved : Type 0 where
   pub marked-cases : MarkedCases
   pub demand-1 : Demand1
@@ -216,4 +237,5 @@ pub record Proved : Type 0 where
   pub operations-are-000s : OperationsAre000s
   pub methods-end-in-goals : MethodsEndInGoals
   pub effects-are-gamma : EffectsAreGamma
+  pub states-are-sets : StatesAreSetsOfAtoms
   pub costs-are-bounded : CostsAreBounded

@@ -81,7 +81,7 @@ methodOf rows = record {
 abbrev pub opens : Row → Bool
 opens r = has Tag.action r || has Tag.method r
 
--- These rows are those of an action (or of a method).
+-- The first of these rows has the tag, so they are those of an action or of a method.
 unfoldable pub headed : ℕ → List Row → Bool
 headed t [] = false
 headed t (r ∷ rs) = has t r

@@ -44,7 +44,7 @@ atomsOf b (l ∷ ls) = cond (Bool·beq (l .sign) b) (l .atom ∷ atomsOf b ls) (
 unfoldable pub γ : State → List Literal → State
 γ s effects = assign true (atomsOf true effects) (assign false (atomsOf false effects) s)
 
--- The effects one row after another, each setting its atom.
+-- The effects one row after another, each setting its atom, as code might do it; that this is γ is `EffectsAreGamma`.
 unfoldable pub byRows : State → List Literal → State
 byRows s [] = s
 byRows s (l ∷ ls) = byRows (set s (l .atom) (l .sign)) ls
