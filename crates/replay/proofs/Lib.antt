@@ -1,21 +1,9 @@
 -- Laws of the definitions in the shape that the code asks for.
-pub mod Walks
-pub mod ByRow
-pub mod Formulas
-pub mod Changes
-pub mod Goals
-pub mod Bodies
-pub mod Places
-pub mod Afters
 pub mod Plans
-pub mod NodeWalks
 pub mod Writes
-pub mod Entered
-pub mod Filling
 pub mod Running
-pub mod Tables
-pub mod Taken
-pub mod Uses
-pub mod Used
-pub mod Actions
 pub mod Totals
+pub mod Firsts
+pub mod Indexing
+pub mod Calls
+pub mod CallDemands

@@ -1,16 +1,15 @@
 -- A run in progress: some steps are taken, the actions done are counted and their costs summed. Assumes nothing.
-use Prim.Native.Nat.{ℕ, zero, suc, _+_, _*_, _<_, _≤_}
+use Prim.Native.Nat.{ℕ, suc, _+_, _*_, _<_, _≤_}
 use native.Mathlib.Omega.{arith}
 use native.Mathlib.Numerals.{add-one}
-use native.Mathlib.Nat.{add-zero}
 use mathlib.Core.Path.{_≡_, refl, sym, ap, ap₂, _∙_}
-use mathlib.Core.List.{List, [], _∷_, _++_, append-assoc, append-nil}
+use mathlib.Core.List.{List, [], _∷_, _++_, append-assoc}
 use lib.ListN.{length, getD, drop, length-append, drop-of-length-le}
 use lib.Seq.{drop-cons}
 use Rattle.hgn.specs.Meaning.{Domain}
 use Rattle.hgn.specs.State.{State}
 use Rattle.hgn.specs.Network.{Waiting, mostWaiting}
-use Rattle.hgn.specs.Run.{Step, Stepped, refused, taken, stepped, Outcome, stopped, accepted, prepend, ended, run, costOf}
+use Rattle.hgn.specs.Run.{Step, refused, taken, stepped, Outcome, stopped, accepted, prepend, ended, run, costOf}
 use Rattle.hgn.proofs.Runs.{resumed, run-cons}
 use Rattle.hgn.proofs.Costs.{cost-append}
 

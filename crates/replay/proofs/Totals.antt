@@ -3,37 +3,36 @@
 use Prim.Native.Nat.{ℕ, suc, _+_, _-_, _<_, _≤_}
 use native.Mathlib.Omega.{arith}
 use native.Mathlib.Nat.{add-zero}
-use mathlib.Core.Path.{_≡_, sym, ap, ap₂, _∙_}
+use mathlib.Core.Path.{_≡_, refl, sym, ap, ap₂, _∙_}
 use mathlib.Core.Bool.{Bool, cond}
 use mathlib.Core.List.{List, [], _∷_, append-nil}
 use lib.Dec.{eqb}
-use lib.ListN.{length, getD, take, drop, length-append, length-take, length-map}
-use lib.Seq.{drop-cons, getD-take, length-take-le}
+use lib.ListN.{length, getD, take, drop, length-map}
+use lib.Seq.{drop-cons}
 use borrow.Author.Tests.{eq-eqb, ne-eqb}
 use Rattle.hgn.specs.Rows.{Row, row}
 use Rattle.hgn.specs.Meaning.{Domain, Action, firstValue, actionOf}
 use Rattle.hgn.specs.State.{State}
 use Rattle.hgn.specs.Network.{Waiting, mostWaiting}
 use Rattle.hgn.specs.Run as Run
-use Rattle.hgn.specs.Run.{Step, Move, actionAt, refused, taken, stepped, stopped, prepend, run, costOf}
+use Rattle.hgn.specs.Run.{Step, Move, actionAt, refused, taken, stepped, prepend, run, costOf}
 use Rattle.hgn.specs.Verdict.{passed}
-use Rattle.hgn.specs.Shop.{domain, rowCount, actionCount, methodCount, shopRows, checkShop}
+use Rattle.hgn.specs.Shop.{domain, rowCount, actionCount, shopRows, checkShop}
 use Rattle.hgn.specs.Trace.{step, stepsOf, stepCount}
-use Rattle.hgn.proofs.Checked.{shop-of-order, shop-counts}
+use Rattle.hgn.specs.Replay.{refusal, acceptance, reported}
+use Rattle.hgn.proofs.Checked.{shop-counts}
 use Rattle.hgn.proofs.Moves.{Reads, as-release, as-action, as-method, as-unknown, reads}
-use Rattle.sheets.specs.Index.{starts, span, Indexable, layoutOf}
-use Rattle.sheets.specs.declared.position.Sheet.the-variants as Of
+use Rattle.sheets.specs.Index.{starts, span}
 use Rattle.sheets.proofs.Lookup.{length-zipWith, getD-zipWith, length-part, getD-part, rows-at}
-use Rattle.sheets.proofs.Spans.{bounds, block-first, block-ends, read-start, ends-length}
-use Rattle.sheets.proofs.Indexed.{shop-length, blocks-count, action-span, shop-indexable}
-use Rattle.replay.specs.Entries.{listOf, entriesOf, waitingOf}
-use Rattle.replay.specs.Steps as Spec
-use Rattle.replay.specs.Steps.{Indexed, doneOf}
-use Rattle.replay.specs.Outcomes.{Ran, stops, accepts}
-use Rattle.replay.specs.declared.bench.Bench.{Bench}
-use Rattle.replay.specs.declared.bench.Stepped as Code
-use Rattle.replay.specs.declared.run.Outcome as Out
-use Rattle.replay.proofs.Tables.{shop-passes, start-at, indexable}
+use Rattle.sheets.proofs.Spans.{bounds, block-first, block-ends}
+use Rattle.sheets.proofs.Indexed.{shop-length, blocks-count, action-span}
+use Rattle.steps.specs.Entries.{listOf, entriesOf, waitingOf}
+use Rattle.steps.specs.Steps as Spec
+use Rattle.steps.specs.Steps.{Indexed, doneOf}
+use Rattle.replay.specs.Answers.{answerOf, runAnswer, endAnswer}
+use Rattle.steps.specs.declared.problem.Problem.{Problem}
+use Rattle.steps.specs.declared.problem.Stepped as Code
+use Rattle.steps.proofs.Tables.{shop-passes, start-at, indexable}
 use Rattle.replay.proofs.Plans.{actionsOf, taken-actions}
 use Rattle.replay.proofs.Running.{Running, running-next, running-stop, running-end}
 
@@ -92,16 +91,16 @@ action-known (as-method h) e = let z : _≡_ {A = ℕ} 0 1 = omega (arith, ap le
 action-known as-unknown e = let z : _≡_ {A = ℕ} 0 1 = omega (arith, ap length e) in absurd (omega arith)
 
 -- What the code's step comes to.
-module _ {o : Run.Stepped} (shop order : List ℕ) (bench : Bench) (r : Code.Stepped) (is : Spec.Stepped o shop order bench r) where
-  step-taken : r .number ≡ 0 → o ≡ taken (doneOf (r .action)) (r .bench .atoms) (listOf shop order (r .bench .waiting))
+module _ {o : Run.Stepped} (shop order : List ℕ) (problem : Problem) (r : Code.Stepped) (is : Spec.Stepped o shop order problem r) where
+  step-taken : r .number ≡ 0 → o ≡ taken (doneOf (r .action)) (r .problem .atoms) (listOf shop order (r .problem .waiting))
   step-taken z =
       sym (is .comes-to)
-      ∙ ap (λ (b : Bool). cond b (taken (doneOf (r .action)) (r .bench .atoms) (listOf shop order (r .bench .waiting))) (refused (r .number))) (eq-eqb (r .number) 0 z)
+      ∙ ap (λ (b : Bool). cond b (taken (doneOf (r .action)) (r .problem .atoms) (listOf shop order (r .problem .waiting))) (refused (r .number))) (eq-eqb (r .number) 0 z)
 
   step-refused : (r .number ≡ 0 → ⊥) → o ≡ refused (r .number)
   step-refused z =
       sym (is .comes-to)
-      ∙ ap (λ (b : Bool). cond b (taken (doneOf (r .action)) (r .bench .atoms) (listOf shop order (r .bench .waiting))) (refused (r .number))) (ne-eqb (r .number) 0 z)
+      ∙ ap (λ (b : Bool). cond b (taken (doneOf (r .action)) (r .problem .atoms) (listOf shop order (r .problem .waiting))) (refused (r .number))) (ne-eqb (r .number) 0 z)
 
 done-one : (k : ℕ) → 0 < k → doneOf k ≡ k ∷ []
 done-one k h = ap (λ (b : Bool). cond b [] (k ∷ [])) (ne-eqb k 0 (omega arith))
@@ -110,27 +109,19 @@ done-none : (k : ℕ) → k ≤ 0 → doneOf k ≡ []
 done-none k h = ap (λ (b : Bool). cond b [] (k ∷ [])) (eq-eqb k 0 (omega arith))
 
 -- After the last step: is nothing waiting?
-ended-ran : (d : Domain) (done : List ℕ) (i : ℕ) (s : State) (w : List Waiting) (r : Out.Outcome)
-    → r .number ≡ cond (eqb (length w) 0) 0 33 → r .place ≡ i → r .bench .atoms ≡ s → r .count ≡ length done → r .cost ≡ costOf d done
-    → Ran d (prepend done (Run.ended i s w)) r
-unfolding prepend Run.ended
-ended-ran d done i s [] r number place atoms count cost = rw (append-nil done) (accepts number atoms count cost)
-ended-ran d done i s (g ∷ w) r number place atoms count cost =
-    stops (number ∙ ap (λ (b : Bool). cond b 0 33) (ne-eqb (length (g ∷ w)) 0 (omega arith))) place (omega arith)
-
-module _ {A : Type 0} (l : List A) (n : ℕ) where
-  pub none-left : n ≡ 0 → _≡_ {A = ℕ} 0 (cond (eqb (length (take n l)) 0) 0 33)
-  none-left z = sym (ap (λ (b : Bool). cond b 0 33) (eq-eqb (length (take n l)) 0 (simp length-take (omega arith))))
-
-  pub some-left : (n ≡ 0 → ⊥) → n ≤ length l → _≡_ {A = ℕ} 33 (cond (eqb (length (take n l)) 0) 0 33)
-  some-left z h = sym (ap (λ (b : Bool). cond b 0 33) (ne-eqb (length (take n l)) 0 (λ e. z (sym (length-take-le n l h) ∙ e))))
+ended-answer : (d : Domain) (steps : ℕ) (done : List ℕ) (s : State) (w : List Waiting)
+    → answerOf (reported d steps [] (prepend done (Run.ended steps s w)) .answer) ≡ endAnswer steps s (length w) (length done) (costOf d done)
+unfolding prepend Run.ended reported acceptance
+ended-answer d steps done s [] = rw (append-nil done) refl
+ended-answer d steps done s (g ∷ w) =
+    sym (ap (λ (b : Bool). answerOf (cond b (record { number = 0; place = steps; state = s; count = length done; cost = costOf d done }) (refusal [] 33 steps .answer))) (ne-eqb (length (g ∷ w)) 0 (omega arith)))
 
 -- A run in progress, and the code's next step.
 module _ (shop order trace : List ℕ) (fits : 1 + (stepCount trace + stepCount trace) ≤ length trace) (s₀ : State) (w₀ : List Waiting)
-    (i : ℕ) (bench : Bench) (count cost : ℕ) (going : Running (domain shop) (stepsOf trace) s₀ w₀ i (bench .atoms) (listOf shop order (bench .waiting)) count cost)
+    (i : ℕ) (problem : Problem) (count cost : ℕ) (going : Running (domain shop) (stepsOf trace) s₀ w₀ i (problem .atoms) (listOf shop order (problem .waiting)) count cost)
   where
     module _ (h : i < stepCount trace) (move place : ℕ) (m : move ≡ getD trace (1 + i) 0) (p : place ≡ getD trace (1 + stepCount trace + i) 0) (r : Code.Stepped)
-        (is : Spec.Stepped (stepped mostWaiting (domain shop) i (bench .atoms) (listOf shop order (bench .waiting)) (record { move = move; place = place })) shop order bench r)
+        (is : Spec.Stepped (stepped mostWaiting (domain shop) i (problem .atoms) (listOf shop order (problem .waiting)) (record { move = move; place = place })) shop order problem r)
       where
         here : getD (stepsOf trace) i (record { move = 0; place = 0 }) ≡ record { move = move; place = place }
         here = step-at trace fits i h ∙ ap₂ {C = Step} (λ a b. record { move = a; place = b }) (sym m) (sym p)
@@ -139,47 +130,51 @@ module _ (shop order trace : List ℕ) (fits : 1 + (stepCount trace + stepCount 
         inside = omega (arith, steps-length trace fits)
 
         -- Refused, the run ends.
-        pub run-refused : (r .number ≡ 0 → ⊥) → run mostWaiting (domain shop) 0 s₀ w₀ (stepsOf trace) ≡ stopped (r .number) i
+        pub run-refused : (r .number ≡ 0 → ⊥) → answerOf (refusal [] (r .number) i .answer) ≡ runAnswer shop trace s₀ w₀
+        unfolding reported
         run-refused z =
-            running-stop (domain shop) (stepsOf trace) s₀ w₀ i (bench .atoms) (listOf shop order (bench .waiting)) count cost going inside
-            (record { move = move; place = place }) here (r .number) (step-refused shop order bench r is z)
+            sym (ap (λ (o : Run.Outcome). answerOf (reported (domain shop) (stepCount trace) [] o .answer))
+            (running-stop (domain shop) (stepsOf trace) s₀ w₀ i (problem .atoms) (listOf shop order (problem .waiting)) count cost going inside
+            (record { move = move; place = place }) here (r .number) (step-refused shop order problem r is z)))
 
         module _ (z : r .number ≡ 0) where
           -- Taken with no action.
           pub run-no-action : r .action ≤ 0
-              → Running (domain shop) (stepsOf trace) s₀ w₀ (i + 1) (r .bench .atoms) (listOf shop order (r .bench .waiting)) count cost
+              → Running (domain shop) (stepsOf trace) s₀ w₀ (i + 1) (r .problem .atoms) (listOf shop order (r .problem .waiting)) count cost
           unfolding costOf
           run-no-action n =
-              running-next (domain shop) (stepsOf trace) s₀ w₀ i (bench .atoms) (listOf shop order (bench .waiting)) count cost going inside
-              (record { move = move; place = place }) here [] (r .bench .atoms) (listOf shop order (r .bench .waiting)) count cost
-              (step-taken shop order bench r is z ∙ ap (λ (l : List ℕ). taken l (r .bench .atoms) (listOf shop order (r .bench .waiting))) (done-none (r .action) n))
+              running-next (domain shop) (stepsOf trace) s₀ w₀ i (problem .atoms) (listOf shop order (problem .waiting)) count cost going inside
+              (record { move = move; place = place }) here [] (r .problem .atoms) (listOf shop order (r .problem .waiting)) count cost
+              (step-taken shop order problem r is z ∙ ap (λ (l : List ℕ). taken l (r .problem .atoms) (listOf shop order (r .problem .waiting))) (done-none (r .action) n))
               (omega arith) (omega arith) (omega arith) (omega arith)
 
           -- Taken with an action.
           module _ (n : 0 < r .action) where
-            takes : stepped mostWaiting (domain shop) i (bench .atoms) (listOf shop order (bench .waiting)) (record { move = move; place = place })
-                ≡ taken (r .action ∷ []) (r .bench .atoms) (listOf shop order (r .bench .waiting))
-            takes = step-taken shop order bench r is z ∙ ap (λ (l : List ℕ). taken l (r .bench .atoms) (listOf shop order (r .bench .waiting))) (done-one (r .action) n)
+            takes : stepped mostWaiting (domain shop) i (problem .atoms) (listOf shop order (problem .waiting)) (record { move = move; place = place })
+                ≡ taken (r .action ∷ []) (r .problem .atoms) (listOf shop order (r .problem .waiting))
+            takes = step-taken shop order problem r is z ∙ ap (λ (l : List ℕ). taken l (r .problem .atoms) (listOf shop order (r .problem .waiting))) (done-one (r .action) n)
 
             pub action-inside : checkShop shop ≡ passed → r .action ≤ actionCount shop
             action-inside e =
-                let k = action-known (reads (domain shop) move) (taken-actions mostWaiting (domain shop) i (bench .atoms) (listOf shop order (bench .waiting)) (record { move = move; place = place }) (r .action ∷ []) (r .bench .atoms) (listOf shop order (r .bench .waiting)) takes) in
+                let k = action-known (reads (domain shop) move) (taken-actions mostWaiting (domain shop) i (problem .atoms) (listOf shop order (problem .waiting)) (record { move = move; place = place }) (r .action ∷ []) (r .problem .atoms) (listOf shop order (r .problem .waiting)) takes) in
                 omega (arith, k .1, shop-counts shop e .0)
 
             pub run-action : (price : ℕ) → price ≡ costOf (domain shop) (r .action ∷ []) → price ≤ 65535
-                → Running (domain shop) (stepsOf trace) s₀ w₀ (i + 1) (r .bench .atoms) (listOf shop order (r .bench .waiting)) (count + 1) (cost + price)
+                → Running (domain shop) (stepsOf trace) s₀ w₀ (i + 1) (r .problem .atoms) (listOf shop order (r .problem .waiting)) (count + 1) (cost + price)
             run-action price q small =
-                running-next (domain shop) (stepsOf trace) s₀ w₀ i (bench .atoms) (listOf shop order (bench .waiting)) count cost going inside
-                (record { move = move; place = place }) here (r .action ∷ []) (r .bench .atoms) (listOf shop order (r .bench .waiting)) (count + 1) (cost + price) takes
+                running-next (domain shop) (stepsOf trace) s₀ w₀ i (problem .atoms) (listOf shop order (problem .waiting)) count cost going inside
+                (record { move = move; place = place }) here (r .action ∷ []) (r .problem .atoms) (listOf shop order (r .problem .waiting)) (count + 1) (cost + price) takes
                 (omega arith) (omega arith) (omega arith) (omega arith)
 
     -- After the last step.
-    pub run-ended : stepCount trace ≤ i → (r : Out.Outcome)
-        → (r .number ≡ cond (eqb (length (entriesOf (bench .waiting))) 0) 0 33) × (r .place ≡ stepCount trace) × (r .bench ≡ bench) × (r .count ≡ count) × (r .cost ≡ cost)
-        → Ran (domain shop) (run mostWaiting (domain shop) 0 s₀ w₀ (stepsOf trace)) r
-    run-ended past r e =
+    pub run-ended : stepCount trace ≤ i
+        → endAnswer (stepCount trace) (problem .atoms) (length (entriesOf (problem .waiting))) count cost ≡ runAnswer shop trace s₀ w₀
+    run-ended past =
         let l = steps-length trace fits in
-        rw (running-end (domain shop) (stepsOf trace) s₀ w₀ i (bench .atoms) (listOf shop order (bench .waiting)) count cost going (omega arith))
-        (ended-ran (domain shop) (going .done) i (bench .atoms) (listOf shop order (bench .waiting)) r
-        (e .0 ∙ ap (λ (n : ℕ). cond (eqb n 0) 0 33) (sym (length-map (entriesOf (bench .waiting)) (waitingOf shop order)))) (omega (arith, e .1, going .inside))
-        (ap (λ (b : Bench). b .atoms) (e .2)) (e .3 ∙ going .counts) (e .4 ∙ going .costs))
+        let last : i ≡ stepCount trace = omega (arith, going .inside) in
+        ap₂ (endAnswer (stepCount trace) (problem .atoms) (length (entriesOf (problem .waiting)))) (going .counts) (going .costs)
+        ∙ ap (λ (n : ℕ). endAnswer (stepCount trace) (problem .atoms) n (length (going .done)) (costOf (domain shop) (going .done))) (sym (length-map (entriesOf (problem .waiting)) (waitingOf shop order)))
+        ∙ sym (ended-answer (domain shop) (stepCount trace) (going .done) (problem .atoms) (listOf shop order (problem .waiting)))
+        ∙ ap (λ (o : Run.Outcome). answerOf (reported (domain shop) (stepCount trace) [] o .answer))
+        (ap (λ (n : ℕ). prepend (going .done) (Run.ended n (problem .atoms) (listOf shop order (problem .waiting)))) (sym last)
+        ∙ sym (running-end (domain shop) (stepsOf trace) s₀ w₀ i (problem .atoms) (listOf shop order (problem .waiting)) count cost going (omega arith)))

@@ -1,7 +1,4 @@
--- How the code's moves, waiting goals and steps stand for the definitions' own.
-pub mod Wanted
-pub mod Entries
-pub mod Moves
-pub mod Steps
-pub mod Entering
-pub mod Outcomes
+-- What the call promises, and how the code's answer stands for the definitions' own.
+pub mod OrderTable
+pub mod Answers
+pub mod Demands

@@ -3,7 +3,7 @@ ghost use mathlib.Core.Path.{_≡_};
 ghost use mathlib.Core.List.{_++_};
 ghost use Prim.Native.Nat.{_≤_};
 ghost use lib.ListN.{length, drop};
-ghost use Rattle.replay.specs.Outcomes.{actionMoves};
+ghost use Rattle.replay.specs.Answers.{actionMoves};
 
 // The moves that are actions, of so many, go into the first words of the room.
 pub fn write_plan(moves: &[u16], actions: u16, room: &mut [u16])

@@ -1,35 +1,22 @@
 // The run of a trace's steps. Document 01, "How a derivation runs".
-use crate::bench::Bench;
-use crate::step;
-use crate::waiting::Place;
+use crate::answer::Answer;
 use sheets::rows::Layout;
 use sheets::rows::Row;
 use sheets::rows::word;
+use steps::problem::Problem;
+use steps::state::State;
+use steps::step;
+use steps::waiting::Place;
 ghost use mathlib.Core.Path.{_≡_};
-ghost use mathlib.Core.Bool.{cond};
 ghost use Prim.Native.Nat.{_≤_, _<_, _+_, _-_};
-ghost use lib.Dec.{eqb};
 ghost use lib.ListN.{length, getD};
-ghost use Rattle.hgn.specs.Run as Run;
-ghost use Rattle.hgn.specs.Shop.{domain};
-ghost use Rattle.hgn.specs.Trace.{stepsOf, stepCount};
-ghost use Rattle.hgn.specs.Network.{mostWaiting};
-ghost use Rattle.replay.specs.Entries.{listOf, entriesOf};
-ghost use Rattle.replay.specs.Steps.{Indexed};
-ghost use Rattle.replay.specs.Outcomes.{Ran};
-
-// What a run comes to: the number and the step of the first question that fails, or 0 with the last record, how many actions were
-// done and their cost.
-pub struct Outcome {
-    pub number: u16,
-    pub place: u16,
-    pub bench: Bench,
-    pub count: u16,
-    pub cost: u32,
-}
+ghost use Rattle.hgn.specs.Trace.{stepCount};
+ghost use Rattle.steps.specs.Entries.{listOf, entriesOf};
+ghost use Rattle.steps.specs.Steps.{Indexed};
+ghost use Rattle.replay.specs.Answers.{runAnswer, endAnswer};
 
 // The cost of an action: the value of its first row.
-pub fn cost_of<'a>(shop: &'a [u16], starts: &'a [u16], rows: usize, action: u16) -> u16
+pub fn cost_of(shop: &[u16], starts: &[u16], rows: usize, action: u16) -> u16
     requires { ⌜ (1 ≤ action) × (action ≤ length (now starts)) × (4 + (rows + rows) ≤ length (now shop)) ⌝ }
     requires { ⌜ getD (now starts) (action - 1) 0 < rows ⌝ }
     ensures { λ r. ⌜ r ≡ getD (now (shop .entry)) (4 + rows + getD (now (starts .entry)) (action - 1) 0) 0 ⌝ }
@@ -47,19 +34,19 @@ pub fn cost_of<'a>(shop: &'a [u16], starts: &'a [u16], rows: usize, action: u16)
 pub fn run<'a>(
     shop: &'a [u16],
     order: &'a [u16],
-    trace: &'a [u16],
-    ends: &'a [u16],
-    starts: &'a [u16],
-    first: Bench,
-) -> Outcome
+    trace: &[u16],
+    ends: &[u16],
+    starts: &[u16],
+    first: Problem,
+) -> Answer
     requires { ⌜ Indexed (now shop) (now order) (now ends) (now starts) ⌝ }
     requires { ⌜ (1 + (stepCount (now trace) + stepCount (now trace)) ≤ length (now trace)) × (stepCount (now trace) ≤ 4096) ⌝ }
     requires { ⌜ first .waiting .count ≤ 64 ⌝ }
-    ensures { λ r. ⌜ Ran (domain (now (shop .entry))) (Run.run mostWaiting (domain (now (shop .entry))) 0 (first .atoms) (listOf (now (shop .entry)) (now (order .entry)) (first .waiting)) (stepsOf (now (trace .entry)))) r ⌝ }
+    ensures { λ r. ⌜ r ≡ runAnswer (now (shop .entry)) (now (trace .entry)) (first .atoms) (listOf (now (shop .entry)) (now (order .entry)) (first .waiting)) ⌝ }
 {
     let steps = word(trace, 0) as usize;
     let rows = word(shop, 3) as usize;
-    let mut bench = first;
+    let mut problem = first;
     let mut count: u16 = 0;
     let mut cost: u32 = 0;
     let mut i: usize = 0;
@@ -68,17 +55,11 @@ pub fn run<'a>(
         let mv = word(trace, 1 + i);
         let place = word(trace, 1 + steps + i);
         i += 1;
-        let stepped = step::step(shop, order, ends, starts, bench, number, mv, Place(place));
+        let stepped = step::step(shop, order, ends, starts, problem, number, mv, Place(place));
         if stepped.number != 0 {
-            return Outcome {
-                number: stepped.number,
-                place: number,
-                bench: first,
-                count: 0,
-                cost: 0,
-            };
+            return Answer::refused(stepped.number, number);
         }
-        bench = stepped.bench;
+        problem = stepped.problem;
         let action = stepped.action;
         if 0 < action {
             let price = cost_of(shop, starts, rows, action);
@@ -86,29 +67,24 @@ pub fn run<'a>(
             cost += price as u32;
         }
     }
-    ended(bench, steps as u16, count, cost)
+    ended(problem, steps as u16, count, cost)
 }
 
 // After the last step: nothing waiting? 33.
-pub fn ended(bench: Bench, steps: u16, count: u16, cost: u32) -> Outcome
-    requires { ⌜ bench .waiting .count ≤ 64 ⌝ }
-    ensures { λ r. ⌜ (r .number ≡ cond (eqb (length (entriesOf (bench .waiting))) 0) 0 33) × (r .place ≡ steps) × (r .bench ≡ bench) × (r .count ≡ count) × (r .cost ≡ cost) ⌝ }
+pub fn ended(problem: Problem, steps: u16, count: u16, cost: u32) -> Answer
+    requires { ⌜ problem .waiting .count ≤ 64 ⌝ }
+    ensures { λ r. ⌜ r ≡ endAnswer steps (problem .atoms) (length (entriesOf (problem .waiting))) count cost ⌝ }
 {
-    let waiting = bench.waiting;
+    let waiting = problem.waiting;
     if waiting.count == 0 {
-        return Outcome {
+        let atoms = problem.atoms;
+        return Answer {
             number: 0,
             place: steps,
-            bench: bench,
+            state: State { atoms: atoms },
             count: count,
             cost: cost,
         };
     }
-    Outcome {
-        number: 33,
-        place: steps,
-        bench: bench,
-        count: count,
-        cost: cost,
-    }
+    Answer::refused(33, steps)
 }

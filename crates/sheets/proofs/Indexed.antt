@@ -153,6 +153,10 @@ module _ (shop : List ℕ) (e : Shop.checkShop shop ≡ passed) where
   unfolding Shop.domain domainOf
   methods-length = sym (length-map methods methodOf) ∙ shop-passed shop e .methods
 
+  -- No sheet has more than 4,000 rows.
+  pub shop-few : Shop.rowCount shop ≤ 4000
+  shop-few = shop-passed shop e .few
+
   pub shop-length : length (shopRows shop) ≡ Shop.rowCount shop
   unfolding shopRows
   shop-length = rows-length Shop.sizeWords (Shop.rowCount shop) shop shop-fits
@@ -231,6 +235,10 @@ module _ (shop sheet : List ℕ) (e : Order.checkOrder shop sheet ≡ passed) wh
       none-open (orderRows sheet) 0
       (each-tag Tag.orderFollow (λ c. true) (λ t. not (eqb t Tag.action || eqb t Tag.method)) (λ c s. no-opening-follows c) 14 (Order.atomCount sheet) 0 Tag.opening (orderRows sheet)
       (order-passed shop sheet e .rows) refl)
+
+  -- No sheet has more than 4,000 rows.
+  pub order-few : Order.rowCount sheet ≤ 4000
+  order-few = order-passed shop sheet e .few
 
   pub order-length : length (orderRows sheet) ≡ Order.rowCount sheet
   unfolding orderRows

@@ -1,4 +1,4 @@
--- The checks' answers, and what is asked of a sheet before and after its rows.
+-- The checks' answers, and what is asked of a sheet before and after its rows. Document 01, "Questions".
 use Prim.Native.Nat.{ℕ}
 use mathlib.Core.Bool.{Bool, cond, _&&_}
 use lib.Dec.{eqb, leb}

@@ -1,5 +1,5 @@
 -- Where the parts of a sheet stand: the numbers of the rows at which they start and end, and the rows, tags and values from one
--- row to another.
+-- row to another. Document 01, "The three sheets".
 use Prim.Native.Nat.{ℕ, suc, _+_, _-_, _<_, _≤_}
 use mathlib.Core.Path.{_≡_}
 use mathlib.Core.Bool.{Bool, cond, _&&_, _||_}

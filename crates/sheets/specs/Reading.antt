@@ -1,4 +1,4 @@
--- The code's sheet, context, position and reading of a row, as the definitions have them.
+-- The code's sheet, context, position and reading of a row, as the definitions have them. Document 01, "The three sheets".
 use Prim.Native.Nat.{ℕ, _+_}
 use mathlib.Core.Bool.{cond}
 use mathlib.Core.List.{List}

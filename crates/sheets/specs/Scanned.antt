@@ -1,4 +1,4 @@
--- What one pass over a sheet's rows answers.
+-- What one pass over a sheet's rows answers. Document 01, "Questions".
 use Prim.Native.Nat.{ℕ}
 use mathlib.Core.Path.{_≡_}
 use mathlib.Core.List.{List}

@@ -1,4 +1,4 @@
--- What questions 8 and 9 count, row after row. That these counts are those of the definitions is proved in `proofs/Counts.antt`.
+-- What questions 8 and 9 of document 01, "Questions", count, row after row. That these counts are those of the definitions is proved in `proofs/Counts.antt`.
 use Prim.Native.Nat.{ℕ, suc, _-_, _≤_}
 use mathlib.Core.Bool.{Bool, true, false, not, cond, _&&_}
 use mathlib.Core.List.{List, [], _∷_}

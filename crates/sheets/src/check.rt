@@ -26,6 +26,9 @@ impl Shop {
     pub const MOST_ACTIONS: u16 = 255;
 
     pub const MOST_METHODS: u16 = 255;
+
+    // Actions and methods together.
+    pub const MOST_BLOCKS: usize = Shop::MOST_ACTIONS as usize + Shop::MOST_METHODS as usize;
 }
 
 // What an order sheet may hold.
@@ -183,7 +186,7 @@ pub fn check_shop(shop: &[u16]) -> Verdict
     }
 }
 
-// Questions 11 to 18, of an order sheet for a shop sheet that passed.
+// Questions 11 to 18, of an order sheet; the shop sheet is asked before.
 fn ask_order(shop: &[u16], order: &[u16]) -> Verdict
     ensures { λ r. ⌜ r ≡ answerOf (orderQuestions (now (shop .entry)) (now (order .entry))) ⌝ }
 {

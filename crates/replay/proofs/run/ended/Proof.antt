@@ -1,18 +1,22 @@
--- Nothing waits where the count is 0 (`Totals`). Assumes nothing.
-use Prim.Native.Nat.{_≤_}
+-- Nothing waits where the count is 0. Assumes nothing.
 use native.Mathlib.Omega.{arith}
-use mathlib.Core.Path.{refl}
+use mathlib.Core.Path.{_≡_, refl, sym, _∙_}
 use lib.ListN.{length, length-map}
-use Rattle.replay.proofs.Totals.{none-left, some-left}
+use borrow.Author.Needs.{needs}
+use borrow.Author.Tests.{eq-eqb, ne-eqb}
+use Rattle.steps.specs.Entries.{entriesOf}
+use Rattle.steps.proofs.Goals.{entries-length}
 use Rattle.replay.proofs.run.ended.Statement.{statement}
 use Rattle.replay.proofs.run.ended.Tie as tie
 
-fits : (s : tie.Start) → s .args .bench .waiting .count ≤ length (s .args .bench .waiting .entries)
-fits s = omega (arith, simp length-map at (s .good .0 .1 .1 .1 .0 .1 .1 .0 .1 .0 .1))
+-- As many wait as are counted.
+long : (s : tie.Start) → length (entriesOf (s .args .problem .waiting)) ≡ s .args .problem .waiting .count
+long s = entries-length (s .args .problem .waiting) (omega (arith, simp length-map at (s .good .0 .1 .1 .1 .0 .1 .1 .0 .1 .0 .1))) (s .pre)
 
 pub ended-spec : {M : Type 1} → statement M
 ended-spec =
     tie.close
     (tie.spec
-    (λ c. (none-left _ _ (c .if1 .taken), refl, refl, refl, refl))
-    (λ c. (some-left _ _ (c .if1 .left) (fits (c .before .before .before)), refl, refl, refl, refl)))
+    (λ c. rw (eq-eqb _ 0 (long (c .before .before .before .before) ∙ c .before .if1 .taken)) refl)
+    (λ c κs. search needs)
+    (λ c. rw (ne-eqb _ 0 (λ z. c .before .if1 .left (sym (long (c .before .before .before .before)) ∙ z))) (c .refused .ensures)))

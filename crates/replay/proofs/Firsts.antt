@@ -1,0 +1,116 @@
+-- The goals of a checked order, read along the table of its ends, and how they enter the empty list. Assumes nothing.
+use Prim.Native.Nat.{ℕ, _-_, _<_, _≤_}
+use native.Mathlib.Omega.{arith}
+use mathlib.Core.Path.{_≡_, refl, sym, ap, _∙_}
+use mathlib.Core.Bool.{true, false, cond}
+use mathlib.Core.List.{List, [], _∷_, map, map-map}
+use mathlib.Core.Option.{none}
+use lib.Dec.{eqb}
+use lib.ListN.{length, take, getD, length-take, length-map}
+use lib.Seq.{getD-take}
+use borrow.Author.Tests.{eqb-true, eqb-false}
+use Rattle.hgn.specs.Lists.{parts}
+use Rattle.hgn.specs.Rows.{Row, row, has}
+use Rattle.hgn.specs.Tag as Tag
+use Rattle.hgn.specs.Meaning.{nodeOf, nodesOf, orderOf}
+use Rattle.hgn.specs.Network as Network
+use Rattle.hgn.specs.Network.{enter, goalsOf}
+use Rattle.hgn.specs.Verdict.{passed}
+use Rattle.hgn.specs.Order as Order
+use Rattle.hgn.specs.Order.{orderRows}
+use Rattle.hgn.proofs.Checked.{order-count}
+use Rattle.sheets.specs.declared.position.Sheet.the-variants as Of
+use Rattle.sheets.specs.Index.{ends, span}
+use Rattle.sheets.proofs.Lookup.{rows-at}
+use Rattle.sheets.proofs.Spans.{by-test, ends-length, NodesFrom}
+use Rattle.sheets.proofs.Indexed.{order-length, order-whole, order-nodes-here, order-nodes-later, order-until, order-columns, order-indexable}
+use Rattle.steps.specs.Entries.{orderOrigin, spanRows, waitingOf, listOf, entriesOf}
+use Rattle.steps.specs.Entering.{Bounds, Walk, entriesFrom}
+use Rattle.replay.specs.OrderTable.{OrderIndexed}
+use Rattle.steps.specs.declared.waiting.Name.{Name}
+use Rattle.steps.specs.declared.waiting.Waiting.{Waiting}
+use Rattle.steps.proofs.Entered.{nodeAt, order-enters}
+use Rattle.steps.proofs.NodeParts.{walk-nodes}
+
+-- The row at which the order's first node begins, or its end, as the code reads it.
+abbrev pub firstRow : List ℕ → List ℕ → ℕ
+firstRow order table = cond (eqb (getD order 2 0) 0) 0 (cond (eqb (getD order 3 0) 7) 0 (getD table 0 0))
+
+-- The order's goals, whose rows begin at `first`.
+pub record GoalsAt (shop order table : List ℕ) (first : ℕ) : Type 0 where
+  pub bs : List Bounds
+  pub walk : Walk table (Order.rowCount order) first bs
+  pub nodes : map (nodeAt shop order Of.Order) bs ≡ Order.order order .goals
+  pub count : Order.goalCount order ≡ length bs
+
+-- The whole of a checked order's span is its rows.
+pub whole-rows : (shop order : List ℕ) → Order.checkOrder shop order ≡ passed
+    → spanRows shop order (record { sheet = Of.Order; from = 0; to = Order.rowCount order }) ≡ orderRows order
+unfolding spanRows
+whole-rows shop order e = order-columns shop order e 0 (Order.rowCount order) (omega arith) (omega arith) ∙ order-whole shop order e
+
+module _ {shop order table : List ℕ} (ix : OrderIndexed shop order table) where
+  abbrev rows : List Row
+  rows = orderRows order
+
+  abbrev n : ℕ
+  n = Order.rowCount order
+
+  long : length rows ≡ n
+  long = order-length shop order (ix .checked)
+
+  fit : length rows ≤ length table
+  fit = omega (arith, simp length-take at (ap length (ix .ends-are)), ends-length rows 0, long)
+
+  end-at : (i : ℕ) → i < length rows → getD table i 0 ≡ getD (ends 0 rows) i 0
+  end-at i h = sym (getD-take n table i 0 (omega (arith, long))) ∙ ap (λ (l : List ℕ). getD l i 0) (ix .ends-are)
+
+  abbrev part : Bounds → List Row
+  part b = spanRows shop order (record { sheet = Of.Order; from = b .from; to = b .to })
+
+  part-is : (from to : ℕ) → from ≤ to → to ≤ length rows → part (record { from = from; to = to }) ≡ span rows from to
+  unfolding spanRows
+  part-is from to f t = order-columns shop order (ix .checked) from to f (omega (arith, long))
+
+  -- A walk over the nodes from some row on has the order's goals, if those are all its nodes.
+  walked : (first : ℕ) → NodesFrom rows first n → parts (has Tag.node) (span rows 0 n) ≡ parts (has Tag.node) (span rows first n) → GoalsAt shop order table first
+  unfolding nodesOf orderOf Order.order
+  walked first w all =
+      let v = walk-nodes rows table fit end-at part part-is first n (omega (arith, long)) w in
+      let nodes : map (nodeAt shop order Of.Order) (v .list) ≡ Order.order order .goals =
+      sym (map-map nodeOf part (v .list)) ∙ ap (map nodeOf) (v .same ∙ sym all ∙ ap (parts (has Tag.node)) (order-whole shop order (ix .checked))) in
+      record {
+        bs = v .list;
+        walk = v .walked;
+        nodes = nodes;
+        count = sym (order-count shop order (ix .checked)) ∙ ap length (sym nodes) ∙ length-map (v .list) (nodeAt shop order Of.Order);
+      }
+
+  -- The tag of the first row.
+  first-tag : 0 < n → getD rows 0 (row 0 0) .tag ≡ getD order 3 0
+  unfolding orderRows
+  first-tag h = ap (λ (r : Row). r .tag) (rows-at 3 n order (order-indexable shop order (ix .checked) {ends′ = table} {starts′ = 0 ∷ []} (omega (arith, fit, long)) (omega arith) .fits) 0 h)
+
+  pub goals-read : GoalsAt shop order table (firstRow order table)
+  goals-read =
+      by-test (eqb (getD order 2 0) 0)
+      (λ z.
+      let none = eqb-true (getD order 2 0) 0 z in
+      rw z (walked 0 (record { until = order-until shop order (ix .checked); node = λ h. absurd (omega arith) }) refl))
+      (λ z.
+      let some : 0 < n = (let d = eqb-false (getD order 2 0) 0 z in omega arith) in
+      by-test (eqb (getD order 3 0) 7)
+      (λ t. rw (z, t) (walked 0 (order-nodes-here shop order (ix .checked) (rw (first-tag some) t)) refl))
+      (λ t.
+      let l = order-nodes-later shop order (ix .checked) some (rw (first-tag some) t) in
+      rw (z, t, end-at 0 (omega (arith, long))) (walked (getD (ends 0 rows) 0 0) (l .1) (l .0))))
+
+  -- Entered into the empty list they are the definitions' first list.
+  pub goals-entered : (parent : Name) (first : ℕ) (a : GoalsAt shop order table first) (r : Waiting)
+      → entriesOf r ≡ entriesFrom Of.Order orderOrigin parent false n 0 (a .bs)
+      → listOf shop order r ≡ goalsOf (Order.order order)
+  unfolding goalsOf
+  goals-entered parent first a r e =
+      ap (map (waitingOf shop order)) e
+      ∙ order-enters shop order Of.Order n (a .bs) parent 0
+      ∙ ap (enter Network.order none 0) (a .nodes)

@@ -1,0 +1,82 @@
+// The replay's call. Document 01, "Questions".
+use crate::answer::Answer;
+use crate::first;
+use crate::plan;
+use crate::run;
+use sheets::check;
+use sheets::check::Shop;
+use sheets::check::Trace;
+use sheets::index;
+use sheets::position::Sheet;
+use sheets::rows::Layout;
+use sheets::rows::word;
+ghost use mathlib.Core.Path.{_≡_};
+ghost use Prim.Native.Nat.{suc, _≤_, _+_};
+ghost use lib.ListN.{length, take, drop};
+ghost use Rattle.hgn.specs.Rows.{mostRows};
+ghost use Rattle.hgn.specs.Shop.{mostActions, mostMethods};
+ghost use Rattle.hgn.specs.Verdict.{passed};
+ghost use Rattle.hgn.specs.Trace.{checkTrace, stepCount};
+ghost use Rattle.hgn.specs.Run.{startOf};
+ghost use Rattle.hgn.specs.Network.{goalsOf};
+ghost use Rattle.hgn.specs.Order as OrderSheet;
+ghost use Rattle.replay.specs.Answers.{runAnswer, Called};
+
+// The moves of a trace.
+fn moves_of(trace: &[u16]) -> &[u16]
+    requires { ⌜ 1 + stepCount (now trace) ≤ length (now trace) ⌝ }
+    ensures { λ r. ⌜ now r ≡ take (stepCount (now (trace .entry))) (drop 1 (now (trace .entry))) ⌝ }
+{
+    let steps = word(trace, 0) as usize;
+    &trace[Trace::SIZES..Trace::SIZES + steps]
+}
+
+// The run of a trace's steps, on sheets that passed. The table of ends is the order's first, for its goals, then the shop's.
+fn run_indexed<'a>(
+    shop: &'a [u16],
+    order: &'a [u16],
+    trace: &[u16],
+    ends: &mut [u16],
+    starts: &mut [u16],
+) -> Answer
+    requires { ⌜ checkTrace (now shop) (now order) (now trace) ≡ passed ⌝ }
+    requires { ⌜ (mostRows ≤ length (now ends)) × (suc (mostActions + mostMethods) ≤ length (now starts)) ⌝ }
+    ensures { λ r. ⌜ r ≡ runAnswer (now (shop .entry)) (now (trace .entry)) (startOf (OrderSheet.order (now (order .entry)))) (goalsOf (OrderSheet.order (now (order .entry)))) ⌝ }
+{
+    let order_rows = index::layout_of(Sheet::Order, order);
+    index::fill(order, order_rows, ends, starts, 0);
+    let first = first::first(shop, order, ends);
+    let blocks = word(shop, 1) as usize + word(shop, 2) as usize;
+    let shop_rows = index::layout_of(Sheet::Shop, shop);
+    index::fill(shop, shop_rows, ends, starts, blocks);
+    run::run(shop, order, trace, ends, starts, first)
+}
+
+// The same, with tables of the largest sheet's size.
+fn run_checked<'a>(shop: &'a [u16], order: &'a [u16], trace: &[u16]) -> Answer
+    requires { ⌜ checkTrace (now shop) (now order) (now trace) ≡ passed ⌝ }
+    ensures { λ r. ⌜ r ≡ runAnswer (now (shop .entry)) (now (trace .entry)) (startOf (OrderSheet.order (now (order .entry)))) (goalsOf (OrderSheet.order (now (order .entry)))) ⌝ }
+{
+    let mut ends = [0u16; Layout::MOST_ROWS as usize];
+    let mut starts = [0u16; Shop::MOST_BLOCKS + 1];
+    run_indexed(shop, order, trace, &mut ends, &mut starts)
+}
+
+// Questions 1 to 33. Accepted, the plan stands in the first words of the room.
+pub fn replay<'a>(shop: &'a [u16], order: &'a [u16], trace: &[u16], plan: &mut [u16]) -> Answer
+    ensures { λ r. ⌜ Called (now (shop .entry)) (now (order .entry)) (now (trace .entry)) (now (plan .entry)) r (now (plan .exit)) ⌝ }
+{
+    let verdict = check::check_trace(shop, order, trace);
+    if verdict.number != 0 {
+        return Answer::refused(verdict.number, verdict.place);
+    }
+    if plan.len() < word(trace, 0) as usize {
+        return Answer::refused(24, 0);
+    }
+    let answer = run_checked(shop, order, trace);
+    if answer.number != 0 {
+        return answer;
+    }
+    plan::write_plan(moves_of(trace), word(shop, 1), plan);
+    answer
+}

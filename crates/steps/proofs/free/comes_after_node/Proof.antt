@@ -1,0 +1,16 @@
+-- Assumes nothing.
+use borrow.Author.Needs.{needs}
+use mathlib.Core.Path.{_∙_}
+use Rattle.steps.proofs.Afters.{after-last, after-rows}
+use Rattle.steps.proofs.free.comes_after_node.Statement.{statement}
+use Rattle.steps.proofs.free.comes_after_node.Tie as tie
+
+pub comes-after-node-spec : {M : Type 1} → statement M
+comes-after-node-spec =
+    tie.close
+    (tie.spec
+    (λ c. search after-last)
+    (λ c κs. search needs)
+    (λ c κs. search needs)
+    (λ c κs. search needs)
+    (λ c. c .stands-in-afters .ensures ∙ search after-rows))

@@ -1,0 +1,6 @@
+-- How the code's moves, waiting goals and steps stand for the definitions' own.
+pub mod Wanted
+pub mod Entries
+pub mod Moves
+pub mod Steps
+pub mod Entering
