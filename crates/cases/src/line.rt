@@ -6,9 +6,13 @@ pub fn text(bytes: &[u8]) {
     io::write_all(STDOUT_FILENO, bytes);
 }
 
+pub fn digits(value: u64) {
+    io::print_decimal(STDOUT_FILENO, value);
+}
+
 pub fn number(value: u64) {
     text(b" ");
-    io::print_decimal(STDOUT_FILENO, value);
+    digits(value);
 }
 
 // What a check answers, and the line's end.

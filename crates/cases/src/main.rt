@@ -1,6 +1,10 @@
 // Runs cases of the public calls and writes a line for each: the call, the case's name, and what was answered.
+mod derivation;
+mod limits;
 mod line;
 mod order;
+mod refusal;
+mod replayed;
 mod sheet;
 mod shop;
 mod table;
@@ -11,4 +15,7 @@ fn main() {
     shop::run();
     order::run();
     trace::run();
+    derivation::run();
+    refusal::run();
+    limits::run();
 }

@@ -1,19 +1,19 @@
--- `table::Call::run` is safe and ends: each turn goes on to a later newline, or to the end. Assumes nothing.
+-- `table::Call::run_on` is safe and ends: each turn goes on to a later newline, or to the end. Assumes nothing.
 use Prim.Native.Nat.{_-_}
 use native.Mathlib.Omega.{arith}
 use borrow.Author.Needs.{needs}
 use lib.ListN.{length}
-use Rattle.cases.proofs.table.Call.run.Statement.{statement}
-use Rattle.cases.proofs.table.Call.run.Tie as tie
+use Rattle.cases.proofs.table.Call.run_on.Statement.{statement}
+use Rattle.cases.proofs.table.Call.run_on.Tie as tie
 
 abbrev Inv-loop : tie.InvT-loop
-Inv-loop call table at₀ at = Unit
+Inv-loop call sheets table at₀ at = Unit
 
 abbrev μ-loop : tie.MeasureT-loop
-μ-loop call table at₀ at = length table - at
+μ-loop call sheets table at₀ at = length table - at
 
-pub run-spec : {M : Type 1} → statement M
-run-spec =
+pub run-on-spec : {M : Type 1} → statement M
+run-on-spec =
     tie.close
     (tie.spec
     Inv-loop
