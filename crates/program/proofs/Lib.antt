@@ -1,0 +1,6 @@
+-- Laws of the definitions in the shape that the code asks for.
+pub mod ByIndex
+pub mod Pieces
+pub mod Decimals
+pub mod Putting
+pub mod Answering

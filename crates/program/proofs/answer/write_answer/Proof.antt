@@ -1,0 +1,34 @@
+-- The heading of the answer, then the lines of its plan. Assumes nothing.
+use Prim.Native.Nat.{ℕ}
+use native.Mathlib.Omega.{arith}
+use mathlib.Core.Path.{ap}
+use borrow.Author.Needs.{needs}
+use lib.ListN.{length, replicate, length-take, length-replicate}
+use Rattle.program.specs.Texts.{printed}
+use Rattle.program.proofs.Answering.{text-is}
+use Rattle.program.proofs.answer.write_answer.Statement.{statement}
+use Rattle.program.proofs.answer.write_answer.Tie as tie
+
+put-lines-requires : tie.Need-put-lines-requires
+put-lines-requires c κs =
+    let r = c .before .before .before .before .before .before .before .before .replay-bytes in
+    omega (arith, ap length (c .front-words .ensures), length-take (r .result .count) (r .last .1 .1 .1 .0), c .before .before .before .before .before .before .before .plan2 .given, length-replicate {A = ℕ} 4096 0, c .before .before .before .before .before .put-heading .ensures .0, c .before .before .before .before .room .given)
+
+returns : tie.Need-returns
+unfolding printed
+returns c =
+    text-is _ _ _ _ _ _ _ _ _ (c .before .before .before .before .before .before .before .before .before .before .before .replay-bytes .ensures) (c .before .before .before .before .before .before .before .before .put-heading .ensures .1) (c .before .before .before .front-words .ensures) (c .before .before .put-lines .ensures)
+
+pub write-answer-spec : {M : Type 1} → statement M
+write-answer-spec =
+    tie.close
+    (tie.spec
+    (λ c. search needs)
+    (λ c κs. search needs)
+    (λ c κs. search needs)
+    (λ c. search needs)
+    (λ c. search needs)
+    (λ c κs. search needs)
+    put-lines-requires
+    (λ c. search needs)
+    returns)

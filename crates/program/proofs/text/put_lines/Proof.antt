@@ -1,0 +1,32 @@
+-- The text holds what stood in front, then a line for each action passed (`Lines`). Assumes nothing.
+use Prim.Native.Nat.{_-_}
+use native.Mathlib.Omega.{arith}
+use borrow.Author.Needs.{needs}
+use lib.ListN.{length}
+use Rattle.program.proofs.Putting.{Lines, lines-none, lines-more, lines-all}
+use Rattle.program.proofs.text.put_lines.Statement.{statement}
+use Rattle.program.proofs.text.put_lines.Tie as tie
+
+abbrev Inv-loop : tie.InvT-loop
+Inv-loop text₀ at plan end₀ i₀ text end i = Lines plan text₀ text at end i
+
+abbrev μ-loop : tie.MeasureT-loop
+μ-loop text₀ at plan end₀ i₀ text end i = length plan - i
+
+pub put-lines-spec : {M : Type 1} → statement M
+put-lines-spec =
+    tie.close
+    (tie.spec
+    Inv-loop
+    μ-loop
+    (λ c. lines-none _ _ _)
+    (λ c. search needs)
+    (λ c. search needs)
+    (λ c. omega (arith, c .shared-slice-known2 .given (c .before .before .before .loop .i)))
+    (λ c κs. omega (arith, c .before .before .before .loop .inv .few, c .before .before .before .loop .inv .same))
+    (λ c. omega arith)
+    (λ c. omega arith)
+    (λ c.
+    lines-more _ _ _ _ _ _ _ _ (c .before .before .before .before .before .before .loop .inv) (c .before .before .before .before .before .loop-test .taken) (c .before .before .put .ensures .0) (c .before .text .given) (c .before .before .put .ensures .1))
+    (λ c. c .before .loop .inv .same)
+    (λ c. lines-all _ _ _ _ _ _ (c .before .loop .inv) (c .loop-test .left)))

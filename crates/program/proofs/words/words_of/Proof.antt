@@ -1,0 +1,35 @@
+-- The room holds the words so far, then its own (`Filling`). Assumes nothing.
+use Prim.Native.Nat.{_-_}
+use native.Mathlib.Omega.{arith}
+use borrow.Author.Needs.{needs}
+use Rattle.program.proofs.ByIndex.{Filling, filling-none, filling-length, filling-more, filled-count, filled}
+use Rattle.program.proofs.words.words_of.Statement.{statement}
+use Rattle.program.proofs.words.words_of.Tie as tie
+
+abbrev Inv-loop : tie.InvT-loop
+Inv-loop bytes words₀ count i₀ words i = Filling bytes words₀ words count i
+
+abbrev μ-loop : tie.MeasureT-loop
+μ-loop bytes words₀ count i₀ words i = count - i
+
+pub words-of-spec : {M : Type 1} → statement M
+words-of-spec =
+    tie.close
+    (tie.spec
+    Inv-loop
+    μ-loop
+    (λ c κs. search needs)
+    (λ c. filling-none _ _ _ (c .least .ensures))
+    (λ c. omega (arith, c .before .before .least .ensures))
+    (λ c. omega (arith, c .before .before .before .least .ensures))
+    (λ c. omega (arith, c .before .before .before .least .ensures))
+    (λ c. omega (arith, c .before .before .before .least .ensures))
+    (λ c. omega (arith, c .before .before .before .before .least .ensures))
+    (λ c κs. search needs)
+    (λ c. omega (arith, c .before .before .before .before .before .least .ensures))
+    (λ c. omega (arith, c .before .before .before .before .before .least .ensures, filling-length _ _ _ (c .before .before .before .before .before .least .ensures) _ _ (c .before .before .before .before .loop .inv)))
+    (λ c. omega (arith, c .before .before .before .before .before .least .ensures))
+    (λ c. omega arith)
+    (λ c. filling-more _ _ _ (c .before .before .before .before .before .least .ensures) _ _ _ (c .before .before .before .before .loop .inv) (c .before .before .before .loop-test .taken) (c .word .ensures))
+    (λ c. filling-length _ _ _ (c .before .before .least .ensures) _ _ (c .before .loop .inv))
+    (λ c. (filled-count (c .before .before .before .before .before .args .bytes .now) (c .before .before .before .before .before .args .words .now) _ (c .before .before .least .ensures), filled _ _ _ (c .before .before .least .ensures) _ _ (c .before .loop .inv) (c .loop-test .left))))

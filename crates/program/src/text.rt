@@ -1,0 +1,70 @@
+// What the program prints. Document 01, "One core of sixty centimetres".
+use sheets::check::Trace;
+ghost use mathlib.Core.Path.{_≡_};
+ghost use mathlib.Core.List.{_++_};
+ghost use Prim.Native.Nat.{_+_, _*_, _≤_};
+ghost use lib.ListN.{length, take};
+ghost use lib.Seq.{paste};
+ghost use Rattle.program.specs.Texts.{ended, heading, lines};
+
+// The room for the text.
+pub struct Text;
+
+impl Text {
+    // 20 digits hold every 64-bit number; one byte more ends it.
+    pub const NUMBER_BYTES: usize = 21;
+
+    // Number, place, count and cost, then the plan.
+    pub const MOST_BYTES: usize = Text::NUMBER_BYTES * (4 + (Trace::MOST_STEPS as usize));
+}
+
+// Bytes go into the text.
+fn copy(from: &[u8], text: &mut [u8], at: usize)
+    requires { ⌜ at + length (now from) ≤ length (now text) ⌝ }
+    ensures { λ _. ⌜ now (text .exit) ≡ paste (now (text .entry)) at (now (from .entry)) (length (now (from .entry))) ⌝ }
+{
+    let mut i = 0;
+    while i < from.len() {
+        text[at + i] = from[i];
+        i += 1;
+    }
+}
+
+// A number and the byte that ends it go behind the first bytes of the text. Answers how many there are now.
+fn put(text: &mut [u8], at: usize, number: u64, end: u8) -> usize
+    requires { ⌜ at + 21 ≤ length (now text) ⌝ }
+    ensures few { λ r. ⌜ r ≤ at + 21 ⌝ }
+    ensures text { λ r. ⌜ take r (now (text .exit)) ≡ take at (now (text .entry)) ++ ended end number ⌝ }
+{
+    let mut digits = [0u8; 20];
+    let count = io::decimal(number, &mut digits);
+    copy(&digits[..count], text, at);
+    text[at + count] = end;
+    at + count + 1
+}
+
+// The four numbers of the first line.
+pub fn put_heading(text: &mut [u8], number: u16, place: u16, count: u16, cost: u32) -> usize
+    requires { ⌜ 84 ≤ length (now text) ⌝ }
+    ensures few { λ r. ⌜ r ≤ 84 ⌝ }
+    ensures text { λ r. ⌜ take r (now (text .exit)) ≡ heading number place count cost ⌝ }
+{
+    let first = put(text, 0, number as u64, b' ');
+    let second = put(text, first, place as u64, b' ');
+    let third = put(text, second, count as u64, b' ');
+    put(text, third, cost as u64, b'\n')
+}
+
+// A line for each action of the plan, behind the first bytes of the text.
+pub fn put_lines(text: &mut [u8], at: usize, plan: &[u16]) -> usize
+    requires { ⌜ at + 21 * length (now plan) ≤ length (now text) ⌝ }
+    ensures { λ r. ⌜ take r (now (text .exit)) ≡ take at (now (text .entry)) ++ lines (now (plan .entry)) ⌝ }
+{
+    let mut end = at;
+    let mut i = 0;
+    while i < plan.len() {
+        end = put(text, end, plan[i] as u64, b'\n');
+        i += 1;
+    }
+    end
+}
