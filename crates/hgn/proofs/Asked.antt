@@ -1,10 +1,12 @@
--- Demand 1: the checks and the replay answer with the first question of document 01's list whose answer is no. Assumes nothing.
+-- Demand 1: the checks, the replay and the search answer with the first question of document 01's list whose answer is no. Assumes nothing.
 use Prim.Native.Nat.{ℕ, suc}
 use native.Mathlib.Omega.{arith}
 use mathlib.Core.Path.{_≡_, refl, sym, ap, ap₂, _∙_, subst₂}
 use mathlib.Core.Bool.{Bool, true, false}
-use mathlib.Core.Logic.{_≢_}
+use mathlib.Core.Logic.{_↔_, _≢_}
 use mathlib.Core.List.{List, [], _∷_, _++_}
+use mathlib.Core.Option.{Option, some}
+use mathlib.Core.Option as Option
 use lib.Dec.{eqb·suc-zero}
 use lib.ListN.{length}
 use Rattle.hgn.specs.Tag.{Context, Position, advance}
@@ -19,9 +21,10 @@ use Rattle.hgn.specs.Shop.{domain, methodQuestions, checkShop}
 use Rattle.hgn.specs.Order.{order, orderQuestions, checkOrder}
 use Rattle.hgn.specs.Trace.{stepCount, stepsOf, traceQuestions, checkTrace}
 use Rattle.hgn.specs.Replay.{Replayed, refusal, acceptance, reported, checkReplay, replay}
-use Rattle.hgn.specs.Questions.{Question, rowsAsked, methodsAsked, shopAsked, orderAsked, traceAsked, roomAsked, known, stepsAsked, asked, FirstNo, here, later, AllYes, none, more}
-use Rattle.hgn.specs.Demands.{ChecksFirst, Demand1}
-use Rattle.hgn.proofs.Numbers.{Numbered, replay-numbered}
+use Rattle.hgn.specs.Search.{isFound, searched, Searched, noTrace, written, checkSearch, search}
+use Rattle.hgn.specs.Questions.{Question, rowsAsked, methodsAsked, shopAsked, orderAsked, traceAsked, roomAsked, known, stepsAsked, asked, searchAsked, FirstNo, here, later, AllYes, none, more}
+use Rattle.hgn.specs.Demands.{ChecksFirst, Demand1, Demand1OfSearch}
+use Rattle.hgn.proofs.Numbers.{Numbered, replay-numbered, search-numbered}
 use Rattle.hgn.proofs.Runs.{resumed, run-cons}
 use Rattle.hgn.proofs.Replayed.{RunNumbered, run-numbered}
 
@@ -71,6 +74,11 @@ ask-then : (b : Bool) (number place : ℕ) (v rest : Verdict) → andThen (ask b
 unfolding ask andThen
 ask-then true number place v rest = refl
 ask-then false number place v rest = refl
+
+then-then : (u v rest : Verdict) → andThen (andThen u v) rest ≡ andThen u (andThen v rest)
+unfolding andThen
+then-then passed v rest = refl
+then-then (refused number place) v rest = refl
 
 first-append : (xs ys : List Question) → firstNo (xs ++ ys) ≡ andThen (firstNo xs) (firstNo ys)
 unfolding firstNo andThen
@@ -143,6 +151,77 @@ module _ (d : Domain) where
       go (use-method m) e ih = rw (e, stepsAsked) (simp (ask-verdict, taken-verdict, ih))
       go unknown e ih = rw (e, stepsAsked) (simp (ask-verdict, refused-verdict))
 
+-- The answers of a call: their numbers and places, and those that refuse.
+record Answers (R : Type 0) : Type 0 where
+  number : R → ℕ
+  place : R → ℕ
+  refusal : ℕ → ℕ → R
+  number-back : (k i : ℕ) → number (refusal k i) ≡ k
+  place-back : (k i : ℕ) → place (refusal k i) ≡ i
+
+-- A replay's, and a search's.
+unfoldable replays : List ℕ → Answers Replayed
+unfolding refusal
+replays room = record {
+  number = λ r. r .answer .number;
+  place = λ r. r .answer .place;
+  refusal = refusal room;
+  number-back = λ k i. refl;
+  place-back = λ k i. refl;
+}
+
+unfoldable searches : List ℕ → Answers Searched
+unfolding noTrace
+searches room = record {
+  number = λ r. r .number;
+  place = λ r. r .place;
+  refusal = noTrace room;
+  number-back = λ k i. refl;
+  place-back = λ k i. refl;
+}
+
+module _ {R : Type 0} (a : Answers R) where
+  -- What an answer tells of the first no.
+  data Tells : Verdict → R → Type 0 where
+    refuses : (number place : ℕ) → number ≢ 0 → Tells (refused number place) (a .refusal number place)
+    accepts : {r : R} → a .number r ≡ 0 → Tells passed r
+
+  refusal-told : {v : Verdict} {r : R} (number place : ℕ) → Tells v r → v ≡ refused number place
+      → (number ≢ 0) × (r ≡ a .refusal number place)
+  refusal-told number place (refuses k i h) e =
+      let p : k ≡ number = cc in
+      let q : i ≡ place = cc in
+      (λ z. h (p ∙ z), ap₂ (a .refusal) p q)
+  refusal-told number place (accepts z) e = let z : _≡_ {A = ℕ} 0 1 = cc in absurd (omega arith)
+
+  told-refusal : {v : Verdict} {r : R} (number place : ℕ) → Tells v r → number ≢ 0 → r ≡ a .refusal number place
+      → v ≡ refused number place
+  told-refusal number place (refuses k i h) z e =
+      ap₂ refused
+      (sym (a .number-back k i) ∙ ap (a .number) e ∙ a .number-back number place)
+      (sym (a .place-back k i) ∙ ap (a .place) e ∙ a .place-back number place)
+  told-refusal number place (accepts h) z e = absurd (z (sym (a .number-back number place) ∙ ap (a .number) (sym e) ∙ h))
+
+  acceptance-told : {v : Verdict} {r : R} → Tells v r → v ≡ passed → a .number r ≡ 0
+  acceptance-told (refuses k i h) e = let z : _≡_ {A = ℕ} 0 1 = cc in absurd (omega arith)
+  acceptance-told (accepts h) e = h
+
+  told-acceptance : {v : Verdict} {r : R} → Tells v r → a .number r ≡ 0 → v ≡ passed
+  told-acceptance (refuses k i h) e = absurd (h (sym (a .number-back k i) ∙ e))
+  told-acceptance (accepts h) e = refl
+
+  -- It refuses with the first no of the questions, and accepts when there is none.
+  first-told : {qs : List Question} {v : Verdict} {r : R} → firstNo qs ≡ v → Tells v r
+      → ((number place : ℕ) → FirstNo qs number place ↔ ((number ≢ 0) × (r ≡ a .refusal number place))) × (AllYes qs ↔ (a .number r ≡ 0))
+  first-told {qs} e t =
+      let c = checks-first qs _ e in (
+        λ number place. (
+          λ h. refusal-told number place t (c .refused-iff number place .0 h),
+          λ h. c .refused-iff number place .1 (told-refusal number place t (h .0) (h .1)),
+        ),
+        (λ h. acceptance-told t (c .passed-iff .0 h), λ h. c .passed-iff .1 (told-acceptance t h)),
+      )
+
 module _ (shop sheet trace room : List ℕ) where
   -- The run that a replay of these sheets reports.
   abbrev outcome : Outcome
@@ -157,63 +236,55 @@ module _ (shop sheet trace room : List ℕ) where
     run-first,
   )
 
-  -- What a replay tells of the first no.
-  data Tells : Verdict → Replayed → Type 0 where
-    refuses : (number place : ℕ) → number ≢ 0 → Tells (refused number place) (refusal room number place)
-    accepts : (plan : List ℕ) (last : State) → Tells passed (acceptance (domain shop) (stepCount trace) room plan last)
-
-  tells : Tells (andThen (checkReplay shop sheet trace room) (verdictOf outcome)) (replay shop sheet trace room)
-  unfolding replay reported andThen verdictOf
-  tells = go (checkReplay shop sheet trace room) refl (replay-numbered shop sheet trace room)
+  replay-tells : Tells (replays room) (andThen (checkReplay shop sheet trace room) (verdictOf outcome)) (replay shop sheet trace room)
+  unfolding replays replay reported andThen verdictOf acceptance
+  replay-tells = go (checkReplay shop sheet trace room) refl (replay-numbered shop sheet trace room)
     where
-      ran : (o : Outcome) → RunNumbered o → Tells (verdictOf o) (reported (domain shop) (stepCount trace) room o)
+      ran : (o : Outcome) → RunNumbered o → Tells (replays room) (verdictOf o) (reported (domain shop) (stepCount trace) room o)
       ran (stopped number place) h = refuses number place h
-      ran (accepted plan last) h = accepts plan last
+      ran (accepted plan last) h = accepts refl
 
       go : (v : Verdict) → checkReplay shop sheet trace room ≡ v → Numbered v
-          → Tells (andThen (checkReplay shop sheet trace room) (verdictOf outcome)) (replay shop sheet trace room)
+          → Tells (replays room) (andThen (checkReplay shop sheet trace room) (verdictOf outcome)) (replay shop sheet trace room)
       go passed e h = rw (e, replay) (ran outcome (run-numbered mostWaiting (domain shop) 0 _ _ (stepsOf trace)))
       go (refused number place) e h = rw (e, replay) (refuses number place h)
 
-  refusal-told : {v : Verdict} {r : Replayed} (number place : ℕ) → Tells v r → v ≡ refused number place
-      → (number ≢ 0) × (r ≡ refusal room number place)
-  refusal-told number place (refuses k i h) e =
-      let a : k ≡ number = cc in
-      let b : i ≡ place = cc in
-      (λ z. h (a ∙ z), ap₂ (refusal room) a b)
-  refusal-told number place (accepts plan last) e = let z : _≡_ {A = ℕ} 0 1 = cc in absurd (omega arith)
-
-  told-refusal : {v : Verdict} {r : Replayed} (number place : ℕ) → Tells v r → number ≢ 0 → r ≡ refusal room number place
-      → v ≡ refused number place
-  unfolding refusal acceptance
-  told-refusal number place (refuses k i h) z e =
-      ap₂ refused (ap (λ (r : Replayed). r .answer .number) e) (ap (λ (r : Replayed). r .answer .place) e)
-  told-refusal number place (accepts plan last) z e = absurd (z (sym (ap (λ (r : Replayed). r .answer .number) e)))
-
-  acceptance-told : {v : Verdict} {r : Replayed} → Tells v r → v ≡ passed → r .answer .number ≡ 0
-  unfolding acceptance
-  acceptance-told (refuses k i h) e = let z : _≡_ {A = ℕ} 0 1 = cc in absurd (omega arith)
-  acceptance-told (accepts plan last) e = refl
-
-  told-acceptance : {v : Verdict} {r : Replayed} → Tells v r → r .answer .number ≡ 0 → v ≡ passed
-  unfolding refusal
-  told-acceptance (refuses k i h) e = absurd (h e)
-  told-acceptance (accepts plan last) e = refl
-
 pub demand-1 : Demand1
+unfolding replays
 demand-1 shop sheet trace room =
-    let t = tells shop sheet trace room in
-    let c = checks-first (asked shop sheet trace room) _ (replay-first shop sheet trace room) in
+    let t = first-told (replays room) (replay-first shop sheet trace room) (replay-tells shop sheet trace room) in
     record {
-      refused-iff = λ number place. (
-        λ h. refusal-told shop sheet trace room number place t (c .refused-iff number place .0 h),
-        λ h. c .refused-iff number place .1 (told-refusal shop sheet trace room number place t (h .0) (h .1)),
-      );
-      accepted-iff = (
-        λ h. acceptance-told shop sheet trace room t (c .passed-iff .0 h),
-        λ h. c .passed-iff .1 (told-acceptance shop sheet trace room t h),
-      );
+      refused-iff = t .0;
+      accepted-iff = t .1;
       shop-check = checks-first _ _ (shop-first shop);
       order-check = checks-first _ _ (order-first shop sheet);
       trace-check = checks-first _ _ (trace-first shop sheet trace);
     }
+
+-- Question 43.
+found : Option (List Step) → Verdict
+found o = ask (isFound o) 43 0 passed
+
+module _ (shop sheet : List ℕ) (depth : ℕ) (room : List ℕ) where
+  search-first : firstNo (searchAsked shop sheet depth room) ≡ andThen (checkSearch shop sheet depth room) (found (searched shop sheet depth))
+  unfolding firstNo searchAsked checkSearch found andThen
+  search-first = rw (first-append (shopAsked shop ++ orderAsked shop sheet), order-first, then-then, ask-then, ask-then)
+
+  search-tells : Tells (searches room) (andThen (checkSearch shop sheet depth room) (found (searched shop sheet depth))) (search shop sheet depth room)
+  unfolding searches search written andThen found isFound ask
+  search-tells = go (checkSearch shop sheet depth room) refl (search-numbered shop sheet depth room)
+    where
+      ran : (o : Option (List Step)) → Tells (searches room) (found o) (written room o)
+      ran Option.none = refuses 43 0 (omega arith)
+      ran (some xs) = accepts refl
+
+      go : (v : Verdict) → checkSearch shop sheet depth room ≡ v → Numbered v
+          → Tells (searches room) (andThen (checkSearch shop sheet depth room) (found (searched shop sheet depth))) (search shop sheet depth room)
+      go passed e h = rw (e, search) (ran (searched shop sheet depth))
+      go (refused number place) e h = rw (e, search) (refuses number place h)
+
+pub demand-1-of-search : Demand1OfSearch
+unfolding searches
+demand-1-of-search shop sheet depth room =
+    let t = first-told (searches room) (search-first shop sheet depth room) (search-tells shop sheet depth room) in
+    record { refused-iff = t .0; found-iff = t .1 }

@@ -22,7 +22,7 @@ use Rattle.hgn.proofs.Steps.{took, taken-done, taken-state, taken-list}
 use Rattle.hgn.proofs.Embedding.{carried, step-carried}
 use Rattle.hgn.proofs.Runs.{Resumes, resumes, resumed-accepts, ended-empty, empty-refuses, accepted-plan, accepted-state}
 use Rattle.hgn.proofs.Front.{Front, of-order, Back, BackGoal, front-embeds, front-blocks, front-step}
-use Rattle.hgn.proofs.Renaming.{goals-renamed, later, later-accepted, run-renamed}
+use Rattle.hgn.proofs.Renaming.{raised-injective, goals-renamed, later, later-accepted, run-renamed}
 use Rattle.hgn.proofs.Checked.{Numbered, order-numbered, order-goals}
 use Rattle.hgn.proofs.Waiting.{length-enter}
 use Rattle.hgn.proofs.Costs.{cost-append}
@@ -231,12 +231,12 @@ module _ (d : Domain) (a b : Order) (numbered : Numbered 0 (a .goals)) (few : le
   second-part = back-start (length (a .goals)) (length (a .goals)) (b .goals) (omega arith)
 
   -- The back on the join is the back on the second order, renamed.
-  back-runs : (c : ℕ) (s : State) (ys : List Step) → run 64 d c s v ys ≡ later c (run 64 d 0 s (goalsOf b) ys)
+  back-runs : (c : ℕ) (s : State) (ys : List Step) → run 64 d c s v ys ≡ later (λ k. c + k) (run 64 d 0 s (goalsOf b) ys)
   unfolding v raisedGoals goalsOf
   back-runs c s ys =
       ap₂ (λ (k : ℕ) (l : List Waiting). run 64 d k s l ys) (sym (add-zero c))
-      (ap (λ (k : ℕ). enter order none k (map (raised (length (a .goals))) (b .goals))) (sym (add-zero (length (a .goals)))) ∙ sym (goals-renamed (length (a .goals)) c 0 (b .goals)))
-      ∙ run-renamed (length (a .goals)) c 64 d ys 0 s (enter order none 0 (b .goals))
+      (ap (λ (k : ℕ). enter order none k (map (raised (length (a .goals))) (b .goals))) (sym (add-zero (length (a .goals)))) ∙ sym (goals-renamed (length (a .goals)) (λ k. c + k) 0 (b .goals)))
+      ∙ run-renamed (length (a .goals)) (λ k. c + k) (raised-injective c) 64 d ys 0 (λ k h. add-suc c k) s (enter order none 0 (b .goals))
 
   goals-length : (o : Order) → length (goalsOf o) ≡ length (o .goals)
   unfolding goalsOf
@@ -259,7 +259,7 @@ module _ (d : Domain) (a b : Order) (numbered : Numbered 0 (a .goals)) (few : le
       last = last;
       back = record {
         within = omega (arith, goals-length b);
-        runs = later-accepted (t .cut) _ (t .backPlan) last (sym (back-runs (t .cut) (t .between) (drop (t .cut) xs)) ∙ back-at);
+        runs = later-accepted (λ k. t .cut + k) _ (t .backPlan) last (sym (back-runs (t .cut) (t .between) (drop (t .cut) xs)) ∙ back-at);
       };
     },
   )
@@ -280,7 +280,7 @@ module _ (d : Domain) (a b : Order) (numbered : Numbered 0 (a .goals)) (few : le
         ap₂ (λ (m : ℕ) (l : List Waiting). run m d 0 (startOf a) l xs) (sym all-places) join-goals
         ∙ glue (length (a .goals)) (64 - length (b .goals)) d v second-part xs c 0 (startOf a) (goalsOf a) (k .frontPlan) (k .backPlan) (k .between) (k .last)
         first-part (k .inside) (k .front .runs)
-        (ap₂ (λ (m n : ℕ). run m d n (k .between) v (drop c xs)) all-places (zero-add c) ∙ back-runs c (k .between) (drop c xs) ∙ ap (later c) (k .back .runs));
+        (ap₂ (λ (m n : ℕ). run m d n (k .between) v (drop c xs)) all-places (zero-add c) ∙ back-runs c (k .between) (drop c xs) ∙ ap (later (λ i. c + i)) (k .back .runs));
   }
 
   pub join-rule : JoinRule d a b xs

@@ -11,7 +11,8 @@ use Rattle.hgn.specs.Network.{Waiting, step, enter, noGoal, released, de
 use Rattle.hgn.specs.Definition1.{Listed, Precedes, listed, through, Unconstrained}
 use Rattle.hgn.specs.Demands.{NetworksAreOrdered, OperationsAre000s, Pair, entering}
 use Rattle.hgn.proofs.Tests.{at-mem, at-getD, last-listed, free-iff-unconstrained}
-use Rattle.hgn.proofs.Reached.{Sound, Apart, Entered, entered, same-goal, released-other, strangers, parent-outside, sound}
+use Rattle.hgn.proofs.Names.{Named, Entered, entered, same-goal, released-other, strangers, parent-outside}
+use Rattle.hgn.proofs.Reached.{Ordered, sound}
 use Rattle.hgn.proofs.Waiting.{released-mem, stays, inserted, inserted-cases, inserted-old, inserted-new}
 
 -- A chain stays one where more goals wait.
@@ -31,9 +32,9 @@ restrict t stay none (through c e) k =
     (through (f .0) (g .0), g .1)
 
 -- The first goal of a list in order has nothing before it, so a chain from a goal to itself would lie behind it.
-never-round : (w : List Waiting) → Apart w → (t : Waiting) → ¬ Precedes w t t
+never-round : (w : List Waiting) → Ordered w → (t : Waiting) → ¬ Precedes w t t
 never-round [] h t c = List·Memᴰ·not-nil (last-listed c .1)
-never-round (q ∷ v) h t c = never-round v (h .2) t (restrict q (λ x m. List·Memᴰ·cases-cons m) (h .0) c (behind (ends c)) .0)
+never-round (q ∷ v) h t c = never-round v (h .1) t (restrict q (λ x m. List·Memᴰ·cases-cons m) (h .0) c (behind (ends c)) .0)
   where
     ends : {a b : Waiting} → Precedes (q ∷ v) a b → List·Memᴰ b (q ∷ v)
     ends (listed m n l) = n
@@ -47,7 +48,7 @@ never-round (q ∷ v) h t c = never-round v (h .2) t (restrict q (λ x m. List·
 pub networks-are-ordered : NetworksAreOrdered
 networks-are-ordered shop o f limit n s₀ s w r = record {
   free-iff = free-iff-unconstrained w;
-  irreflexive = never-round w (sound f r .apart);
+  irreflexive = never-round w (sound f r .ordered);
 }
 
 -- The nodes that enter at the goal of place `p` carry its name.
@@ -56,11 +57,11 @@ decomposed-is : (n : ℕ) {w : List Waiting} {p : ℕ} {t : Waiting} (nodes : Li
 unfolding decomposed
 decomposed-is n {w} {p} nodes k = ap (λ (x : Waiting). inserted w p (enter (step n) (some (x .name)) 0 nodes)) (at-getD noGoal k)
 
-module _ {n : ℕ} {w : List Waiting} (h : Sound n w) where
+module _ {n : ℕ} {w : List Waiting} (h : Named n w) where
   -- T′ = T \ {t}.
   release-nodes : (p : ℕ) (t a : Waiting) → At w p t → List·Memᴰ a (released w p) ↔ (List·Memᴰ a w × (a ≢ t))
   release-nodes p t a k = (
-    (λ m. (released-mem k m, λ e. released-other k (h .apart) m (ap (λ (x : Waiting). x .name) e))),
+    (λ m. (released-mem k m, λ e. released-other k (h .distinct) m (ap (λ (x : Waiting). x .name) e))),
     (λ r. ⊎-elim (λ e. absurd (r .1 e)) (λ m. m) (stays k (r .0))),
   )
 
@@ -102,7 +103,7 @@ module _ {n : ℕ} {w : List Waiting} (h : Sound n w) where
       to : List·Memᴰ a w ⊎ New a → List·Memᴰ b w ⊎ New b → Listed a b → Pair w a b ⊎ ((New a × New b × List·Memᴰ (a .name .number) (b .after)) ⊎ (New a × (b ≡ t)))
       to (inl i) (inl j) l = inl (i, j, l)
       to (inl i) (inr j) l = absurd (strangers (networkOf m) h a b i j .not-after l)
-      to (inr i) (inl j) l = inr (inr (i, same-goal w (h .apart) j (at-mem k) (strangers (networkOf m) h b a j i .before-parent l)))
+      to (inr i) (inl j) l = inr (inr (i, same-goal w (h .distinct) j (at-mem k) (strangers (networkOf m) h b a j i .before-parent l)))
       to (inr i) (inr j) l = inr (inl (i, j, both i j l))
 
       from : Pair w a b ⊎ ((New a × New b × List·Memᴰ (a .name .number) (b .after)) ⊎ (New a × (b ≡ t))) → Pair (decomposed w p n (networkOf m)) a b
@@ -116,7 +117,7 @@ module _ {n : ℕ} {w : List Waiting} (h : Sound n w) where
 
 -- A release and a method change nodes and order as 000 says.
 pub operations-are-000s : OperationsAre000s
-operations-are-000s shop o f limit n s₀ s w r = let h = sound f r in record {
+operations-are-000s shop o f limit n s₀ s w r = let h = sound f r .named in record {
   release-nodes = release-nodes h;
   release-order = release-order h;
   method-nodes = λ p t a m k i. method-nodes h p t a m k;

@@ -43,6 +43,10 @@ pub or-false : (a b : Bool) → (a || b) ≡ false → (a ≡ false) × (b ≡ f
 or-false true b e = absurd (true≢false e)
 or-false false b e = (refl, e)
 
+pub false-or : (a b : Bool) → a ≡ false → b ≡ false → (a || b) ≡ false
+false-or true b p q = p
+false-or false b p q = q
+
 pub beq-true : (a b : Bool) → Bool·beq a b ≡ true → a ≡ b
 beq-true true true e = refl
 beq-true true false e = absurd (false≢true e)

@@ -71,11 +71,11 @@ steps-length trace e =
     ∙ moves-length trace e
 
 -- A trace of these moves and places.
-abbrev written : List ℕ → List ℕ → List ℕ
+abbrev pub written : List ℕ → List ℕ → List ℕ
 written ms ps = length ms ∷ (ms ++ ps)
 
 module _ (ms ps : List ℕ) (e : length ps ≡ length ms) where
-  written-passes : length ms ≤ mostSteps → traceQuestions (written ms ps) ≡ passed
+  pub written-passes : length ms ≤ mostSteps → traceQuestions (written ms ps) ≡ passed
   unfolding traceQuestions ask
   written-passes h =
       rw (
@@ -84,7 +84,7 @@ module _ (ms ps : List ℕ) (e : length ps ≡ length ms) where
         eq-eqb (length (written ms ps)) (1 + 2 * length ms) (omega (arith, e, length-append ms ps)),
       )
 
-  written-steps : stepsOf (written ms ps) ≡ zipWith step ms ps
+  pub written-steps : stepsOf (written ms ps) ≡ zipWith step ms ps
   unfolding stepsOf
   written-steps = ap₂ (zipWith step) (take-append-seam ms ps) second
     where

@@ -1,8 +1,7 @@
 -- What is proved of the definitions, each as a named type: the demands of document 00, and what document 01 and source
 -- document 000 say of networks, methods, effects and costs, quoted above each. A value of each stands in `proofs/`, gathered in
--- `proofs/Demands.antt`. That a call answers what a definition says is the call's contract. Demand 2's half on the search comes with
--- the search.
-use Prim.Native.Nat.{ℕ, suc, _+_, _-_, _≤_, _<_}
+-- `proofs/Demands.antt`. That a call answers what a definition says is the call's contract.
+use Prim.Native.Nat.{ℕ, suc, _+_, _-_, _*_, _≤_, _<_}
 use mathlib.Core.Path.{_≡_}
 use mathlib.Core.Bool.{true, false}
 use mathlib.Core.Logic.{_↔_, _⊎_, _≢_}
@@ -18,9 +17,10 @@ use Rattle.hgn.specs.Join.{Accepted, Cut, join}
 use Rattle.hgn.specs.Verdict.{Verdict, passed, refused}
 use Rattle.hgn.specs.Shop.{domain, checkShop}
 use Rattle.hgn.specs.Order.{order, checkOrder}
-use Rattle.hgn.specs.Trace.{stepCount, mostSteps, stepsOf, checkTrace}
+use Rattle.hgn.specs.Trace.{sizeWords, stepCount, mostSteps, stepsOf, checkTrace}
 use Rattle.hgn.specs.Replay.{Replayed, refusal, replay}
-use Rattle.hgn.specs.Questions.{Question, shopAsked, orderAsked, traceAsked, asked, FirstNo, AllYes}
+use Rattle.hgn.specs.Search.{Earlier, traceWords, Searched, noTrace, search}
+use Rattle.hgn.specs.Questions.{Question, shopAsked, orderAsked, traceAsked, asked, searchAsked, FirstNo, AllYes}
 use Rattle.hgn.specs.Definition1.{Derivation, Listed, Precedes, Unconstrained}
 use Rattle.hgn.specs.Cases.{MarkedCases}
 
@@ -44,6 +44,15 @@ pub record RefusesAtFirst (shop sheet trace room : List ℕ) : Type 0 where
 
 abbrev pub Demand1 : Type 0
 Demand1 = (shop sheet trace room : List ℕ) → RefusesAtFirst shop sheet trace room
+
+-- The search too refuses with the first no, its room unchanged, and finds a trace when there is none.
+pub record SearchRefusesAtFirst (shop sheet : List ℕ) (depth : ℕ) (room : List ℕ) : Type 0 where
+  pub refused-iff : (number place : ℕ) → FirstNo (searchAsked shop sheet depth room) number place
+      ↔ ((number ≢ 0) × (search shop sheet depth room ≡ noTrace room number place))
+  pub found-iff : AllYes (searchAsked shop sheet depth room) ↔ (search shop sheet depth room .number ≡ 0)
+
+abbrev pub Demand1OfSearch : Type 0
+Demand1OfSearch = (shop sheet : List ℕ) (depth : ℕ) (room : List ℕ) → SearchRefusesAtFirst shop sheet depth room
 
 -- Demand 2. "With sheets that pass and room for as many words of plan as the trace has steps, a trace is accepted if and only if
 -- it is a derivation under Definition 1 of source document 000, with at most 64 goals waiting at each moment; plan, cost and
@@ -85,6 +94,54 @@ pub record ReplayIsDefinition1 (shop sheet trace room : List ℕ) : Type 0 where
 
 abbrev pub Demand2 : Type 0
 Demand2 = (shop sheet trace room : List ℕ) → ReplayIsDefinition1 shop sheet trace room
+
+-- Demand 2, of the search. "The search gives the first of the shortest accepted traces, or 43 if none has at most D steps."
+-- Document 01: "The search prefers fewer steps; among equally long traces, the first differing step decides: lower place, then
+-- lower move."
+
+-- The steps are an accepted trace: a derivation of some plan.
+abbrev pub Solves : List ℕ → List ℕ → List Step → Type 0
+Solves shop sheet xs =
+    (plan : List ℕ) × (last : State)
+    × Derivation mostWaiting (domain shop) 0 (startOf (order sheet)) (goalsOf (order sheet)) xs plan last
+
+-- The first of the shortest: accepted, none is shorter, and none of its length is earlier.
+pub record FirstOfShortest (shop sheet : List ℕ) (xs : List Step) : Type 0 where
+  pub solves : Solves shop sheet xs
+  pub shortest : (ys : List Step) → Solves shop sheet ys → length xs ≤ length ys
+  pub earliest : (ys : List Step) → Solves shop sheet ys → length ys ≡ length xs → ¬ Earlier ys xs
+
+-- Sheets that pass, D at most 32 and room for 1 + 2D words.
+abbrev pub SearchPasses : List ℕ → List ℕ → ℕ → List ℕ → Type 0
+SearchPasses shop sheet depth room =
+    (checkOrder shop sheet ≡ passed) × (depth ≤ 32) × (sizeWords + 2 * depth ≤ length room)
+
+-- Found: 0 and L; the trace in the first 1 + 2L words, the rest unchanged. Those words are a trace that passes and has these steps.
+pub record Finds (shop sheet : List ℕ) (room : List ℕ) (xs : List Step) (r : Searched) : Type 0 where
+  pub number : r .number ≡ 0
+  pub place : r .place ≡ length xs
+  pub trace-words : take (sizeWords + 2 * length xs) (r .room) ≡ traceWords xs
+  pub later-words : drop (sizeWords + 2 * length xs) (r .room) ≡ drop (sizeWords + 2 * length xs) room
+  pub room-length : length (r .room) ≡ length room
+  pub trace-passes : checkTrace shop sheet (traceWords xs) ≡ passed
+  pub trace-steps : stepsOf (traceWords xs) ≡ xs
+
+pub record SearchFindsFirst (shop sheet : List ℕ) (depth : ℕ) (room : List ℕ) : Type 0 where
+  -- It finds a trace exactly when sheets, depth and room pass and one of at most D steps is accepted,
+  pub finds-iff : (search shop sheet depth room .number ≡ 0)
+      ↔ (SearchPasses shop sheet depth room × ((xs : List Step) × Solves shop sheet xs × (length xs ≤ depth)))
+  -- and that is the first of the shortest, of which there is one only.
+  pub results : (xs : List Step) → SearchPasses shop sheet depth room → FirstOfShortest shop sheet xs → length xs ≤ depth
+      → Finds shop sheet room xs (search shop sheet depth room)
+  pub exists : SearchPasses shop sheet depth room → search shop sheet depth room .number ≡ 0
+      → (xs : List Step) × FirstOfShortest shop sheet xs × (length xs ≤ depth)
+  pub one-only : (xs ys : List Step) → FirstOfShortest shop sheet xs → FirstOfShortest shop sheet ys → xs ≡ ys
+  -- 43, the room unchanged, exactly when they pass and none of at most D steps is accepted.
+  pub none-iff : (search shop sheet depth room ≡ noTrace room 43 0)
+      ↔ (SearchPasses shop sheet depth room × ((xs : List Step) → length xs ≤ depth → ¬ Solves shop sheet xs))
+
+abbrev pub Demand2OfSearch : Type 0
+Demand2OfSearch = (shop sheet : List ℕ) (depth : ℕ) (room : List ℕ) → SearchFindsFirst shop sheet depth room
 
 -- Demand 3. "For any two orders that pass with one shop sheet, and for every trace of at most 4,096 steps, whatever its moves and
 -- places: it is accepted on their join (every goal of the first before every goal of the second) exactly when there is a cut such
@@ -225,11 +282,13 @@ abbrev pub CostsAreBounded : Type 0
 CostsAreBounded = (shop : List ℕ) → checkShop shop ≡ passed → (plan : List ℕ) → length plan ≤ mostSteps
     → costOf (domain shop) plan ≤ 268_431_360
 
--- All of it; the search's half of demand 2 is yet to come.
+-- All of it.
 pub record Proved : Type 0 where
   pub marked-cases : MarkedCases
   pub demand-1 : Demand1
+  pub demand-1-of-search : Demand1OfSearch
   pub demand-2 : Demand2
+  pub demand-2-of-search : Demand2OfSearch
   pub demand-3 : Demand3
   pub accepted-is-derivation : AcceptedIsDerivation
   pub first-before-second : FirstBeforeSecond

@@ -16,7 +16,8 @@ pub mod Shop
 pub mod Order
 pub mod Trace
 pub mod Replay
--- The same questions as one list, which demand 1 is about.
+pub mod Search
+-- The same questions as lists, which demand 1 is about.
 pub mod Questions
 -- Source document 000, and the statements that are proved.
 pub mod Definition1

@@ -1,7 +1,8 @@
--- Tests on lists that the other files use. Nothing here is about planning.
+-- What the other files use of lists. Nothing here is about planning.
 use Prim.Native.Nat.{ℕ, zero, suc}
 use mathlib.Core.Bool.{Bool, true, false, cond, _&&_, _||_}
 use mathlib.Core.List.{List, [], _∷_, _++_}
+use mathlib.Core.Option.{Option, none, some}
 use lib.Dec.{eqb}
 
 module _ {A : Type 0} where
@@ -44,3 +45,16 @@ among n ns = any (eqb n) ns
 unfoldable pub below : ℕ → List ℕ
 below zero = []
 below (suc n) = below n ++ (n ∷ [])
+
+-- `n` numbers from `i` on: `i`, `i` + 1, …
+unfoldable pub from : ℕ → ℕ → List ℕ
+from i zero = []
+from i (suc n) = i ∷ from (suc i) n
+
+-- The first value that is found along the list.
+unfoldable pub firstSome : {A B : Type 0} → (A → Option B) → List A → Option B
+firstSome f [] = none
+firstSome f (x ∷ xs) = elim (f x) [
+  | none ↦ firstSome f xs
+  | some y ↦ some y
+]

@@ -1,7 +1,8 @@
--- The questions of a replay as one list, in the paper's order and words, each with its number, the place field when the answer is no,
--- and its answer; and the first no. Document 01, "Questions, and the number when the answer is no".
--- `checkReplay` and `run` ask one after another and stop. Nothing here does, so that "the first question it fails" has its meaning
--- apart from them; `Demands` says that they agree.
+-- The questions of a replay and those of a search, each as one list, in the paper's order and words, each with its number, the place
+-- field when the answer is no, and its answer; and the first no. Document 01, "Questions, and the number when the answer is no".
+-- `checkReplay`, `run` and `search` ask one after another and stop. Nothing here does, so that "the first question it fails" has its
+-- meaning apart from them; `Demands` says that they agree. Only the answer to 43 is the search's own; that it is right is `none-iff` of
+-- `SearchFindsFirst`.
 use Prim.Native.Nat.{ℕ, suc, _+_, _*_}
 use mathlib.Core.Path.{_≡_}
 use mathlib.Core.Bool.{Bool, true, false, _&&_}
@@ -22,6 +23,7 @@ use Rattle.hgn.specs.Order
 use Rattle.hgn.specs.Order.{orderRows, order}
 use Rattle.hgn.specs.Trace
 use Rattle.hgn.specs.Trace.{stepCount, mostSteps, stepsOf}
+use Rattle.hgn.specs.Search.{searched, isFound}
 
 pub record Question : Type 0 where
   pub number : ℕ
@@ -121,6 +123,15 @@ unfoldable pub asked : List ℕ → List ℕ → List ℕ → List ℕ → List 
 asked shop sheet trace room =
     shopAsked shop ++ orderAsked shop sheet ++ traceAsked trace ++ roomAsked trace room
     ++ stepsAsked (domain shop) 0 (startOf (order sheet)) (goalsOf (order sheet)) (stepsOf trace)
+
+-- "Search, after shop and order: D at most 32? 41. Room for 1 + 2D words? 42. Is there an accepted trace of at most D steps? 43."
+unfoldable pub searchAsked : List ℕ → List ℕ → ℕ → List ℕ → List Question
+searchAsked shop sheet depth room =
+    shopAsked shop ++ orderAsked shop sheet
+    ++ (question 41 0 (leb depth 32)
+    ∷ question 42 0 (leb (Trace.sizeWords + 2 * depth) (length room))
+    ∷ question 43 0 (isFound (searched shop sheet depth))
+    ∷ [])
 
 -- ".. and stops at the first no": the first question of the list with the answer no has this number and this place.
 pub data FirstNo : List Question → ℕ → ℕ → Type 0 where
