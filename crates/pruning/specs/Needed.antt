@@ -1,0 +1,60 @@
+-- Moves that every accepted trace makes, and so the least number of its steps: where a search may begin. Not to be believed: `proofs/`
+-- has a lemma for each way in which a move is needed.
+use Prim.Native.Nat.{ℕ, suc, _+_, _≤_}
+use mathlib.Core.Path.{_≡_}
+use mathlib.Core.Bool.{true}
+use mathlib.Core.Logic.{_≢_}
+use mathlib.Core.List.{List, [], _∷_, List·Memᴰ}
+use lib.ListN.{length, getD}
+use Rattle.hgn.specs.Meaning.{Literal, Formula, Node, Domain, noNode}
+use Rattle.hgn.specs.State.{State, contains, relevant}
+use Rattle.hgn.specs.Network.{Waiting, mostWaiting}
+use Rattle.hgn.specs.Run.{Step, Move, release, act, use-method, unknown, moveOf, actionAt, methodAt, run, accepted}
+
+-- Some step makes the move.
+abbrev pub Makes : Domain → List Step → Move → Type 0
+Makes d xs m = (x : Step) × List·Memᴰ x xs × (moveOf d (x .move) ≡ m)
+
+-- Every list of steps that is accepted from a state and a list makes the move.
+abbrev pub Needed : Domain → State → List Waiting → Move → Type 0
+Needed d s w m = (n : ℕ) (xs : List Step) (plan : List ℕ) (last : State) → run mostWaiting d n s w xs ≡ accepted plan last → Makes d xs m
+
+-- What a move needs of the state.
+abbrev pub needsOf : Domain → Move → List Literal
+needsOf d release = []
+needsOf d (act k) = actionAt d k .needs
+needsOf d (use-method m) = methodAt d m .needs
+needsOf d unknown = []
+
+-- No action but `k` makes the literal.
+abbrev pub OnlyMaker : Domain → Literal → ℕ → Type 0
+OnlyMaker d l k = (j : ℕ) → 1 ≤ j → j ≤ length (d .actions) → contains (actionAt d j .effects) l ≡ true → j ≡ k
+
+-- Node `i` of method `j`.
+abbrev pub nodeIn : Domain → ℕ → ℕ → Node
+nodeIn d j i = getD (methodAt d j .nodes) i noNode
+
+-- No method but `m` has a node to which action `k` is relevant.
+abbrev pub OnlyMethod : Domain → ℕ → ℕ → Type 0
+OnlyMethod d k m = (j i : ℕ) → suc j ≤ length (d .methods) → suc i ≤ length (methodAt d j .nodes)
+    → relevant (actionAt d k .effects) (nodeIn d j i .formula) ≡ true → j ≡ m
+
+-- The literal stands in every alternative.
+abbrev pub InEvery : Literal → Formula → Type 0
+InEvery l f = (c : List Literal) → List·Memᴰ c f → contains c l ≡ true
+
+-- The steps that a move brings with it: itself, and a release for each node of a method.
+unfoldable pub weight : Domain → Move → ℕ
+weight d release = 0
+weight d (act k) = 1
+weight d (use-method m) = suc (length (methodAt d m .nodes))
+weight d unknown = 0
+
+unfoldable pub weights : Domain → List Move → ℕ
+weights d [] = 0
+weights d (m ∷ ms) = weight d m + weights d ms
+
+-- No move stands twice.
+abbrev pub Different : List Move → Type 0
+Different [] = Unit {0}
+Different (m ∷ ms) = ((x : Move) → List·Memᴰ x ms → x ≢ m) × Different ms

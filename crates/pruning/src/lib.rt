@@ -1,0 +1,1 @@
+// The steps that a search may leave out. It has no code.
