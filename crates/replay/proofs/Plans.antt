@@ -1,7 +1,7 @@
 -- The plan of an accepted run is the actions among its moves. Assumes nothing.
 use Prim.Native.Nat.{ℕ, suc, _+_, _≤_}
 use native.Mathlib.Omega.{arith}
-use mathlib.Core.Path.{_≡_, refl, ap, ap₂, _∙_}
+use mathlib.Core.Path.{_≡_, refl, ap₂, _∙_}
 use mathlib.Core.Bool.{cond, _&&_}
 use mathlib.Core.List.{List, [], _∷_, _++_, zipWith}
 use lib.Dec.{eqb, leb, ltb}
@@ -10,7 +10,7 @@ use borrow.Author.Tests.{eqb-true, eqb-false, le-ltb, lt-ltb}
 use Rattle.hgn.specs.Meaning.{Domain}
 use Rattle.hgn.specs.State.{State}
 use Rattle.hgn.specs.Network.{Waiting}
-use Rattle.hgn.specs.Run.{Step, Move, release, act, use-method, unknown, moveOf, taken, stepped, accepted, ended, run}
+use Rattle.hgn.specs.Run.{Step, Move, release, act, use-method, unknown, moveOf, taken, stepped, accepted, run}
 use Rattle.hgn.specs.Trace.{step}
 use Rattle.hgn.proofs.Steps.{Moved, by-release, by-action, by-method, took}
 use Rattle.hgn.proofs.Runs.{resumes, ended-empty}

@@ -1,7 +1,7 @@
 -- The demands of document 00, read of the call `replay`. `Called` is its contract: for whatever words are lent, its answer `r` and
 -- the room at exit are the definition's. What the definition is, hgn's `specs/Demands.antt` says. Here the two are joined: each type
 -- speaks of the answers and rooms of calls, and of the definitions that a demand names (Definition 1, the join, the questions).
--- A value of `Promised` stands in `proofs/CallDemands.antt`. What the demands say of the search comes with the search.
+-- A value of `Promised` stands in `proofs/CallDemands.antt`. The search's crate has its own such page.
 use Prim.Native.Nat.{ℕ, suc, _+_, _*_, _≤_, _<_}
 use mathlib.Core.Path.{_≡_}
 use mathlib.Core.Logic.{_↔_, _≢_}
@@ -179,7 +179,7 @@ CallsOfDemand3 = (shop first second trace : List ℕ)
     → checkOrder shop first ≡ passed → checkOrder shop second ≡ passed → traceQuestions trace ≡ passed
     → CallsAreThere shop first second trace
 
--- All of it, with what hgn's page says of the definitions; the search's half of demand 2 is yet to come.
+-- All of it, with what hgn's page says of the definitions.
 pub record Promised : Type 0 where
   pub definitions : Proved
   pub demand-1 : Demand1OfCall

@@ -6,8 +6,6 @@ use crate::run;
 use sheets::check;
 use sheets::check::Shop;
 use sheets::check::Trace;
-use sheets::index;
-use sheets::position::Sheet;
 use sheets::rows::Layout;
 use sheets::rows::word;
 ghost use mathlib.Core.Path.{_≡_};
@@ -31,7 +29,7 @@ fn moves_of(trace: &[u16]) -> &[u16]
     &trace[Trace::SIZES..Trace::SIZES + steps]
 }
 
-// The run of a trace's steps, on sheets that passed. The table of ends is the order's first, for its goals, then the shop's.
+// The run of a trace's steps, on sheets that passed.
 fn run_indexed<'a>(
     shop: &'a [u16],
     order: &'a [u16],
@@ -43,12 +41,7 @@ fn run_indexed<'a>(
     requires { ⌜ (mostRows ≤ length (now ends)) × (suc (mostActions + mostMethods) ≤ length (now starts)) ⌝ }
     ensures { λ r. ⌜ r ≡ runAnswer (now (shop .entry)) (now (trace .entry)) (startOf (OrderSheet.order (now (order .entry)))) (goalsOf (OrderSheet.order (now (order .entry)))) ⌝ }
 {
-    let order_rows = index::layout_of(Sheet::Order, order);
-    index::fill(order, order_rows, ends, starts, 0);
-    let first = first::first(shop, order, ends);
-    let blocks = word(shop, 1) as usize + word(shop, 2) as usize;
-    let shop_rows = index::layout_of(Sheet::Shop, shop);
-    index::fill(shop, shop_rows, ends, starts, blocks);
+    let first = first::prepared(shop, order, ends, starts);
     run::run(shop, order, trace, ends, starts, first)
 }
 

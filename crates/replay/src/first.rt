@@ -15,14 +15,17 @@ use steps::waiting::Place;
 use steps::waiting::Waiting;
 ghost use mathlib.Core.Path.{_≡_};
 ghost use mathlib.Core.Bool.{cond};
-ghost use Prim.Native.Nat.{_≤_};
+ghost use Prim.Native.Nat.{suc, _+_, _≤_};
 ghost use lib.Dec.{eqb};
-ghost use lib.ListN.{getD};
+ghost use lib.ListN.{length, getD};
+ghost use Rattle.hgn.specs.Rows.{mostRows};
+ghost use Rattle.hgn.specs.Shop.{mostActions, mostMethods};
 ghost use Rattle.hgn.specs.Run.{startOf};
 ghost use Rattle.hgn.specs.Network.{goalsOf};
 ghost use Rattle.hgn.specs.Order as OrderSheet;
 ghost use Rattle.hgn.specs.Verdict.{passed};
 ghost use Rattle.steps.specs.Entries.{listOf};
+ghost use Rattle.steps.specs.Steps.{Indexed};
 ghost use Rattle.replay.specs.OrderTable.{OrderIndexed};
 
 // The row at which the order's first node begins, or its end. If row 0 is no node, it belongs to no part, and the table says where the
@@ -89,4 +92,26 @@ pub fn first<'a>(shop: &'a [u16], order: &'a [u16], ends: &[u16]) -> Problem
         atoms: atoms,
         waiting: waiting,
     }
+}
+
+// The first record, with the tables filled: of ends, first the order's, for its goals, then the shop's; of starts the shop's.
+pub fn prepared<'a>(
+    shop: &'a [u16],
+    order: &'a [u16],
+    ends: &mut [u16],
+    starts: &mut [u16],
+) -> Problem
+    requires { ⌜ OrderSheet.checkOrder (now shop) (now order) ≡ passed ⌝ }
+    requires { ⌜ (mostRows ≤ length (now ends)) × (suc (mostActions + mostMethods) ≤ length (now starts)) ⌝ }
+    ensures { λ _. ⌜ Indexed (now (shop .entry)) (now (order .entry)) (now (ends .exit)) (now (starts .exit)) ⌝ }
+    ensures { λ r. ⌜ r .atoms ≡ startOf (OrderSheet.order (now (order .entry))) ⌝ }
+    ensures { λ r. ⌜ (listOf (now (shop .entry)) (now (order .entry)) (r .waiting) ≡ goalsOf (OrderSheet.order (now (order .entry)))) × (r .waiting .count ≤ 64) ⌝ }
+{
+    let order_rows = index::layout_of(Sheet::Order, order);
+    index::fill(order, order_rows, ends, starts, 0);
+    let problem = first(shop, order, ends);
+    let blocks = word(shop, 1) as usize + word(shop, 2) as usize;
+    let shop_rows = index::layout_of(Sheet::Shop, shop);
+    index::fill(shop, shop_rows, ends, starts, blocks);
+    problem
 }

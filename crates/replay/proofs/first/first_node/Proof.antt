@@ -1,6 +1,5 @@
 -- The words of the definition's tests. Assumes nothing.
 use mathlib.Core.Path.{refl, sym, _∙_}
-use lib.Dec.{eqb}
 use borrow.Author.Needs.{needs}
 use borrow.Author.Tests.{eq-eqb, ne-eqb}
 use Rattle.replay.proofs.first.first_node.Statement.{statement}
