@@ -51,7 +51,7 @@ module _ {shop order endTable startTable : List ℕ} (i : Indexed shop order end
 
   -- Action `k` by its rows.
   module _ (k : ℕ) (h : 1 ≤ k) (m : k ≤ actionCount shop) where
-    action-rows : actionAt (domain shop) k ≡ Meaning.actionOf (spanRows shop order (record { sheet = Of.Shop; from = getD startTable (k - 1) 0; to = getD startTable k 0 }))
+    pub action-rows : actionAt (domain shop) k ≡ Meaning.actionOf (spanRows shop order (record { sheet = Of.Shop; from = getD startTable (k - 1) 0; to = getD startTable k 0 }))
     action-rows =
         let z : suc (k - 1) ≡ k = omega arith in
         action-span shop (shop-passes i) (k - 1) (omega arith)

@@ -1,0 +1,57 @@
+-- What a method's nodes want, and which method an action takes. Assumes nothing.
+use Prim.Native.Nat.{ℕ, _<_}
+use mathlib.Core.Path.{_≡_, refl, sym, _∙_, subst}
+use mathlib.Core.Bool.{Bool, false}
+use mathlib.Core.List.{List, List·Memᴰ, List·Memᴰ·head, List·Memᴰ·tail, Memᴰ·map}
+use lib.ListN.{getD}
+use Rattle.hgn.specs.Lists.{any}
+use Rattle.hgn.specs.Meaning.{Node, Domain, noNode}
+use Rattle.hgn.specs.State.{State, relevant}
+use Rattle.hgn.specs.Network.{Waiting}
+use Rattle.hgn.specs.Run.{act, use-method, actionAt, methodAt}
+use Rattle.hgn.specs.Shop.{domain}
+use Rattle.hgn.proofs.Tests.{not-true-false, false-not-true, true-any, mem-at, at-lt, at-getD}
+use Rattle.sheets.specs.declared.index.Span.{Span}
+use Rattle.sheets.specs.declared.position.Sheet.the-variants as Of
+use Rattle.steps.specs.Entering.{Bounds, Walk}
+use Rattle.steps.proofs.Entered.{nodeAt}
+use Rattle.steps.proofs.NodeWalks.{ahead}
+use Rattle.pruning.specs.Needed.{Needed, OnlyMethod, InEvery}
+use Rattle.pruning.proofs.Needed.{needed-by-node, needed-by-relevance}
+use Rattle.needed.specs.Gathered.{NodesAt, WantedFormula}
+
+module _ (d : Domain) (s : State) (w : List Waiting) where
+  pub node-wanted : (m : ℕ) (v : Node) → Needed d s w (use-method m) → List·Memᴰ v (methodAt d m .nodes) → WantedFormula d s w (v .formula)
+  node-wanted m v n i l e k f o =
+      let a = mem-at i in
+      needed-by-node d s w m (a .0) l k n (at-lt (a .1)) (subst (λ (x : Node). InEvery l (x .formula)) (sym (at-getD noNode (a .1))) e) f o
+
+  pub method-needed : (k m : ℕ) {told : Bool} → told ≡ any (λ (g : Waiting). relevant (actionAt d k .effects) (g .formula)) w → told ≡ false → OnlyMethod d k m
+      → Needed d s w (act k) → Needed d s w (use-method m)
+  method-needed k m e f o n =
+      needed-by-relevance d s w k m n
+      (λ g i. not-true-false _ (λ t. false-not-true _ (sym e ∙ f) (true-any (λ (x : Waiting). relevant (actionAt d k .effects) (x .formula)) w i t)))
+      o
+
+-- The nodes of a method that are left from a row on.
+pub record NodesLeft (shop order table : List ℕ) (m e row : ℕ) : Type 0 where
+  pub rest : List Bounds
+  pub walk : Walk table e row rest
+  pub are : (b : Bounds) → List·Memᴰ b rest → List·Memᴰ (nodeAt shop order Of.Shop b) (methodAt (domain shop) m .nodes)
+
+module _ {shop order table : List ℕ} {m : ℕ} where
+  pub nodes-all : {r : Span} → NodesAt shop order table m r → NodesLeft shop order table m (r .to) (r .from)
+  nodes-all a = record {
+    rest = a .bs;
+    walk = a .walk;
+    are = λ b i. subst (List·Memᴰ (nodeAt shop order Of.Shop b)) (a .nodes) (Memᴰ·map (nodeAt shop order Of.Shop) i);
+  }
+
+  module _ {e row : ℕ} (a : NodesLeft shop order table m e row) (h : row < e) where
+    pub node-here : List·Memᴰ (nodeAt shop order Of.Shop (record { from = row; to = getD table row 0 })) (methodAt (domain shop) m .nodes)
+    node-here = let f = ahead h (a .walk) in a .are _ (subst (List·Memᴰ _) (sym (f .list)) (List·Memᴰ·head refl))
+
+    pub nodes-next : NodesLeft shop order table m e (getD table row 0)
+    nodes-next =
+        let f = ahead h (a .walk) in
+        record { rest = f .rest; walk = f .onward; are = λ b i. a .are b (subst (List·Memᴰ b) (sym (f .list)) (List·Memᴰ·tail i)) }

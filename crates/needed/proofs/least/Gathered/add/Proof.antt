@@ -1,0 +1,28 @@
+-- A move that is not marked is different from those before it. Assumes nothing.
+use native.Mathlib.Omega.{arith}
+use borrow.Author.Needs.{needs}
+use Rattle.needed.proofs.Gathering.{added}
+use Rattle.needed.proofs.least.Gathered.add.Statement.{statement}
+use Rattle.needed.proofs.least.Gathered.add.Tie as tie
+
+returns-6 : tie.Need-returns-6
+returns-6 c =
+    added _ _ _ (c .before .before .before .before .if3 .left) (search needs) (c .before .before .before .before .before .before .if2 .left) (omega (arith, c .before .before .if5 .left, c .before .before .before .if4 .left))
+
+pub add-spec : {M : Type 1} → statement M
+add-spec =
+    tie.close
+    (tie.spec
+    (λ c. search needs)
+    (λ c d s w b n l h. h)
+    (λ c d s w b n l h. h)
+    (λ c. search needs)
+    (λ c d s w b n l h. h)
+    (λ c d s w b n l h. h)
+    (λ c d s w b n l h. h)
+    (λ c. search needs)
+    (λ c. search needs)
+    (λ c. search needs)
+    (λ c. search needs)
+    (λ c. search needs)
+    returns-6)

@@ -1,0 +1,42 @@
+-- The table of only makers. Not to be believed: what is proved of the bound is a lemma of `pruning`.
+use Prim.Native.Nat.{ℕ, _+_, _*_, _-_, _≤_, _<_}
+use mathlib.Core.Bool.{Bool, true, false, cond}
+use mathlib.Core.List.{List, [], _∷_}
+use lib.Dec.{eqb}
+use lib.ListN.{length, getD, set}
+use Rattle.hgn.specs.Meaning.{Literal, Domain, literals, nodeOf}
+use Rattle.hgn.specs.State.{mostAtoms, relevant}
+use Rattle.sheets.specs.declared.index.Span.{Span}
+use Rattle.sheets.specs.declared.position.Sheet.the-variants as Of
+use Rattle.steps.specs.Entries.{spanRows}
+use Rattle.steps.specs.Entering.{Bounds}
+use Rattle.pruning.specs.Needed.{OnlyMaker}
+
+-- Where the table has a literal: two words an atom, for false and for true.
+abbrev pub indexOf : ℕ → Bool → ℕ
+indexOf atom sign = 2 * atom + cond sign 1 0
+
+-- Where the table names an action, no other makes the literal.
+abbrev pub OnlyMakers : Domain → List ℕ → Type 0
+OnlyMakers d table = (l : Literal) → l .atom < mostAtoms → 1 ≤ getD table (indexOf (l .atom) (l .sign)) 0
+    → getD table (indexOf (l .atom) (l .sign)) 0 ≤ length (d .actions) → OnlyMaker d l (getD table (indexOf (l .atom) (l .sign)) 0)
+
+-- Stands where several actions make a literal.
+abbrev pub many : ℕ
+many = 65535
+
+-- An action set at each of these literals; `many` where another stands.
+unfoldable pub marked : ℕ → List Literal → List ℕ → List ℕ
+marked k [] table = table
+marked k (l ∷ ls) table =
+    marked k ls (set table (indexOf (l .atom) (l .sign)) (cond (eqb (getD table (indexOf (l .atom) (l .sign)) 0) 0) k many))
+
+-- The rows of action `k`, by the table of starts.
+abbrev pub actionSpan : List ℕ → ℕ → Span
+actionSpan starts k = record { sheet = Of.Shop; from = getD starts (k - 1) 0; to = getD starts k 0 }
+
+-- The effects among these rows are relevant to the node with those.
+abbrev pub boundRelevant : List ℕ → List ℕ → Span → Bounds → Bool
+boundRelevant shop order effects b =
+    relevant (literals 5 6 (spanRows shop order effects))
+    (nodeOf (spanRows shop order (record { sheet = Of.Shop; from = b .from; to = b .to })) .formula)

@@ -1,0 +1,430 @@
+// The moves that every accepted trace makes, and the steps that they take.
+use crate::makers;
+use sheets::index;
+use sheets::index::Span;
+use sheets::position::Atom;
+use sheets::position::Sheet;
+use sheets::rows::word;
+use sheets::tag;
+use steps::enter;
+use steps::part;
+use steps::problem::Problem;
+use steps::state;
+use steps::waiting::Waiting;
+ghost use mathlib.Core.Path.{_≡_};
+ghost use mathlib.Core.Bool.{true};
+ghost use mathlib.Core.List.{List, [], _∷_, zipWith};
+ghost use mathlib.Core.Option.{none};
+ghost use Prim.Native.Nat.{ℕ, _+_, _-_, _<_, _≤_};
+ghost use lib.ListN.{length};
+ghost use Rattle.hgn.specs.Rows.{row};
+ghost use Rattle.hgn.specs.Meaning.{Domain, literals, nodeOf};
+ghost use Rattle.hgn.specs.State.{State};
+ghost use Rattle.hgn.specs.Network as Network;
+ghost use Rattle.hgn.specs.Run as Run;
+ghost use Rattle.hgn.specs.Shop.{domain, actionCount, methodCount};
+ghost use Rattle.steps.specs.Entries.{listOf, spanRows};
+ghost use Rattle.steps.specs.Steps.{Indexed};
+ghost use Rattle.pruning.specs.Pruned.{prunedOf};
+ghost use Rattle.needed.specs.Tables.{OnlyMakers};
+ghost use Rattle.needed.specs.Gathered.{Holds, moveOfBlock, Wanted, WantedAll, WantedFormula, WithBlock, WithMakers, Onward, NodesAt};
+
+// The needed moves found so far, as blocks: action k is block k - 1, and the methods follow the actions, as in the table of starts.
+pub struct Gathered {
+    pub marked: [bool; 511],
+    pub blocks: [u16; 511],
+    pub count: u16,
+    pub weight: u16,
+}
+
+impl Gathered {
+    // Room for every action and method of a shop sheet.
+    pub const MOST: usize = 511;
+    // The most that a move may weigh, and the most that the list may weigh before one is added.
+    pub const HEAVY: u16 = 1000;
+
+    pub const FULL: u16 = 59000;
+
+    pub fn empty() -> Gathered
+        ensures { λ r. ⌜ ((d : Domain) (s : State) (w : List Network.Waiting) → Holds d s w r) ⌝ }
+    {
+        Gathered {
+            marked: [false; 511],
+            blocks: [0; 511],
+            count: 0,
+            weight: 0,
+        }
+    }
+
+    // With one move more, if it is not there yet. Where there is no room for it, it is left out: fewer moves are needed too.
+    pub fn add(self, block: u16, weight: u16) -> Gathered
+        ensures { λ r. ⌜ WithBlock block weight self r ⌝ }
+    {
+        let at = block as usize;
+        let end = self.count as usize;
+        if Gathered::MOST <= at {
+            return self;
+        }
+        if Gathered::MOST <= end {
+            return self;
+        }
+        if self.marked[at] {
+            return self;
+        }
+        if Gathered::HEAVY < weight {
+            return self;
+        }
+        if Gathered::FULL < self.weight {
+            return self;
+        }
+        let mut marked = self.marked;
+        let mut blocks = self.blocks;
+        marked[at] = true;
+        blocks[end] = block;
+        Gathered {
+            marked: marked,
+            blocks: blocks,
+            count: self.count + 1,
+            weight: self.weight + weight,
+        }
+    }
+
+    // With the only action that makes a literal, an atom and its sign, if the literal does not hold.
+    fn with_maker(
+        self,
+        atoms: &[bool; 256],
+        table: [u16; 512],
+        actions: u16,
+        atom: u16,
+        sign: bool,
+    ) -> Gathered
+        ensures { λ r. ⌜ WithMakers (λ d w. Wanted d (now (atoms .entry)) w (record { sign = sign; atom = atom })) (now (atoms .entry)) table actions self r ⌝ }
+    {
+        if 256 <= atom {
+            return self;
+        }
+        if state::holds(atoms, Atom(atom), sign) {
+            return self;
+        }
+        let at = makers::index_of(atom, sign);
+        let action = table[at];
+        if action == 0 {
+            return self;
+        }
+        if actions < action {
+            return self;
+        }
+        self.add(action - 1, 1)
+    }
+
+    // With the only maker of the row's literal, if it has one: its tag is one of these two, one for true and one for false.
+    fn with_row(
+        self,
+        atoms: &[bool; 256],
+        table: [u16; 512],
+        actions: u16,
+        tag: u16,
+        value: u16,
+        yes: u16,
+        no: u16,
+    ) -> Gathered
+        ensures { λ r. ⌜ WithMakers (λ d w. WantedAll d (now (atoms .entry)) w (literals «yes» «no» (row tag value ∷ []))) (now (atoms .entry)) table actions self r ⌝ }
+    {
+        if tag == yes {
+            return self.with_maker(atoms, table, actions, value, true);
+        }
+        if tag == no {
+            return self.with_maker(atoms, table, actions, value, false);
+        }
+        self
+    }
+
+    // With the only makers of the literals of the rows with these two tags.
+    fn with_rows(
+        self,
+        atoms: &[bool; 256],
+        table: [u16; 512],
+        actions: u16,
+        tags: &[u16],
+        values: &[u16],
+        yes: u16,
+        no: u16,
+    ) -> Gathered
+        ensures { λ r. ⌜ WithMakers (λ d w. WantedAll d (now (atoms .entry)) w (literals «yes» «no» (zipWith row (now (tags .entry)) (now (values .entry))))) (now (atoms .entry)) table actions self r ⌝ }
+    {
+        let n = part::rows(tags, values);
+        let mut next = self;
+        let mut i = 0;
+        while i < n {
+            next = next.with_row(atoms, table, actions, tags[i], values[i], yes, no);
+            i += 1;
+        }
+        next
+    }
+
+    // With the only makers of what a goal wants, if it has one alternative: then its literals stand in every one.
+    fn with_goal<'a>(
+        self,
+        shop: &'a [u16],
+        order: &'a [u16],
+        atoms: &[bool; 256],
+        table: [u16; 512],
+        actions: u16,
+        rows: Span,
+    ) -> Gathered
+        ensures { λ r. ⌜ WithMakers (λ d w. WantedFormula d (now (atoms .entry)) w (nodeOf (spanRows (now (shop .entry)) (now (order .entry)) rows) .formula)) (now (atoms .entry)) table actions self r ⌝ }
+    {
+        let tags = index::tags_of(rows, shop, order);
+        let values = index::values_of(rows, shop, order);
+        if one_alternative(tags, values) {
+            return self.with_rows(
+                atoms,
+                table,
+                actions,
+                tags,
+                values,
+                tag::WANTED_TRUE,
+                tag::WANTED_FALSE,
+            );
+        }
+        self
+    }
+
+    // The only makers of what the waiting goals want.
+    fn of_goals<'a>(
+        shop: &'a [u16],
+        order: &'a [u16],
+        atoms: &[bool; 256],
+        table: [u16; 512],
+        actions: u16,
+        waiting: Waiting,
+    ) -> Gathered
+        requires { ⌜ waiting .count ≤ 64 ⌝ }
+        ensures { λ r. ⌜ ((d : Domain) → length (d .actions) ≡ actions → OnlyMakers d table → Holds d (now (atoms .entry)) (listOf (now (shop .entry)) (now (order .entry)) waiting) r) ⌝ }
+    {
+        let count = waiting.count as usize;
+        let mut next = Gathered::empty();
+        let mut i = 0;
+        while i < count {
+            let goal = waiting.entries[i];
+            let rows = goal.rows;
+            next = next.with_goal(shop, order, atoms, table, actions, rows);
+            i += 1;
+        }
+        next
+    }
+
+    // With the only makers of what an action or a method needs.
+    fn with_needs<'a>(
+        self,
+        shop: &'a [u16],
+        order: &'a [u16],
+        ends: &[u16],
+        starts: &[u16],
+        atoms: &[bool; 256],
+        table: [u16; 512],
+        block: u16,
+    ) -> Gathered
+        requires { ⌜ Indexed (now shop) (now order) (now ends) (now starts) × (block < actionCount (now shop) + methodCount (now shop)) × OnlyMakers (domain (now shop)) table ⌝ }
+        ensures { λ r. ⌜ ((w : List Network.Waiting) → Onward (domain (now (shop .entry))) (now (atoms .entry)) w (moveOfBlock (domain (now (shop .entry))) block) self r) ⌝ }
+    {
+        let actions = word(shop, 1);
+        let at = block as usize;
+        let from = starts[at];
+        let to = starts[at + 1];
+        let rows = Span {
+            sheet: Sheet::Shop,
+            from: from,
+            to: to,
+        };
+        let tags = index::tags_of(rows, shop, order);
+        let values = index::values_of(rows, shop, order);
+        self.with_rows(
+            atoms,
+            table,
+            actions,
+            tags,
+            values,
+            tag::NEEDS_TRUE,
+            tag::NEEDS_FALSE,
+        )
+    }
+
+    // With the only method that can bring in a goal to which the action is relevant, if none that waits is one.
+    fn with_method<'a>(
+        self,
+        shop: &'a [u16],
+        order: &'a [u16],
+        ends: &[u16],
+        starts: &[u16],
+        waiting: Waiting,
+        action: u16,
+    ) -> Gathered
+        requires { ⌜ Indexed (now shop) (now order) (now ends) (now starts) × (1 ≤ action) × (action ≤ actionCount (now shop)) × (waiting .count ≤ 64) ⌝ }
+        ensures { λ r. ⌜ ((s : State) → Onward (domain (now (shop .entry))) s (listOf (now (shop .entry)) (now (order .entry)) waiting) (Run.act action) self r) ⌝ }
+    {
+        if makers::wanted_by(shop, order, ends, starts, waiting, action) {
+            return self;
+        }
+        let named = makers::only_method(shop, order, ends, starts, action);
+        if named == 0 {
+            return self;
+        }
+        let method = named - 1;
+        let rows = method_nodes(shop, order, ends, starts, method);
+        let nodes = enter::nodes_between(ends, rows.from, rows.to);
+        let block = word(shop, 1) + method;
+        self.add(block, 1 + nodes.count)
+    }
+
+    // With the only makers of what a method's nodes want.
+    fn with_nodes<'a>(
+        self,
+        shop: &'a [u16],
+        order: &'a [u16],
+        ends: &[u16],
+        starts: &[u16],
+        atoms: &[bool; 256],
+        table: [u16; 512],
+        method: u16,
+    ) -> Gathered
+        requires { ⌜ Indexed (now shop) (now order) (now ends) (now starts) × (method < methodCount (now shop)) × OnlyMakers (domain (now shop)) table ⌝ }
+        ensures { λ r. ⌜ ((w : List Network.Waiting) → Onward (domain (now (shop .entry))) (now (atoms .entry)) w (Run.use-method method) self r) ⌝ }
+    {
+        let actions = word(shop, 1);
+        let rows = method_nodes(shop, order, ends, starts, method);
+        let end = rows.to;
+        let mut next = self;
+        let mut row = rows.from;
+        while row < end {
+            let from = row;
+            let here = row as usize;
+            row = ends[here];
+            let node = Span {
+                sheet: Sheet::Shop,
+                from: from,
+                to: row,
+            };
+            next = next.with_goal(shop, order, atoms, table, actions, node);
+        }
+        next
+    }
+
+    // With what a move brings with it.
+    fn with_move<'a>(
+        self,
+        shop: &'a [u16],
+        order: &'a [u16],
+        ends: &[u16],
+        starts: &[u16],
+        atoms: &[bool; 256],
+        table: [u16; 512],
+        waiting: Waiting,
+        block: u16,
+    ) -> Gathered
+        requires { ⌜ Indexed (now shop) (now order) (now ends) (now starts) × (block < actionCount (now shop) + methodCount (now shop)) × OnlyMakers (domain (now shop)) table × (waiting .count ≤ 64) ⌝ }
+        ensures { λ r. ⌜ Onward (domain (now (shop .entry))) (now (atoms .entry)) (listOf (now (shop .entry)) (now (order .entry)) waiting) (moveOfBlock (domain (now (shop .entry))) block) self r ⌝ }
+    {
+        let actions = word(shop, 1);
+        let next = self.with_needs(shop, order, ends, starts, atoms, table, block);
+        if block < actions {
+            return next.with_method(shop, order, ends, starts, waiting, block + 1);
+        }
+        next.with_nodes(shop, order, ends, starts, atoms, table, block - actions)
+    }
+
+    // With what every move of the list brings with it, those that are added on the way too.
+    fn closed<'a>(
+        self,
+        shop: &'a [u16],
+        order: &'a [u16],
+        ends: &[u16],
+        starts: &[u16],
+        atoms: &[bool; 256],
+        table: [u16; 512],
+        waiting: Waiting,
+    ) -> Gathered
+        requires { ⌜ Indexed (now shop) (now order) (now ends) (now starts) × OnlyMakers (domain (now shop)) table × (waiting .count ≤ 64) ⌝ }
+        requires { ⌜ Holds (domain (now shop)) (now atoms) (listOf (now shop) (now order) waiting) self ⌝ }
+        ensures { λ r. ⌜ Holds (domain (now (shop .entry))) (now (atoms .entry)) (listOf (now (shop .entry)) (now (order .entry)) waiting) r ⌝ }
+    {
+        let mut next = self;
+        let mut at = 0;
+        while at < next.count as usize {
+            let block = next.blocks[at];
+            at += 1;
+            next = next.with_move(shop, order, ends, starts, atoms, table, waiting, block);
+        }
+        next
+    }
+}
+
+// The rows of a method's nodes.
+fn method_nodes<'a>(
+    shop: &'a [u16],
+    order: &'a [u16],
+    ends: &[u16],
+    starts: &[u16],
+    method: u16,
+) -> Span
+    requires { ⌜ Indexed (now shop) (now order) (now ends) (now starts) × (method < methodCount (now shop)) ⌝ }
+    ensures { λ r. ⌜ NodesAt (now (shop .entry)) (now (order .entry)) (now (ends .entry)) method r ⌝ }
+{
+    let block = word(shop, 1) as usize + method as usize;
+    let from = starts[block];
+    let end = starts[block + 1];
+    let at = from as usize;
+    let first = ends[at];
+    Span {
+        sheet: Sheet::Shop,
+        from: first,
+        to: end,
+    }
+}
+
+// The rows of a node have one alternative, and nothing is wanted before it.
+fn one_alternative(tags: &[u16], values: &[u16]) -> bool
+    ensures { λ r. ⌜ (r ≡ true → nodeOf (zipWith row (now (tags .entry)) (now (values .entry))) .formula ≡ literals 9 10 (zipWith row (now (tags .entry)) (now (values .entry))) ∷ []) ⌝ }
+{
+    let n = part::rows(tags, values);
+    let mut found = false;
+    let mut i = 0;
+    while i < n {
+        let tag = tags[i];
+        i += 1;
+        if tag == tag::ALTERNATIVE {
+            if found {
+                return false;
+            }
+            found = true;
+        } else if !found {
+            if tag == tag::WANTED_TRUE {
+                return false;
+            }
+            if tag == tag::WANTED_FALSE {
+                return false;
+            }
+        }
+    }
+    found
+}
+
+// No accepted trace has fewer steps: a release for each goal that waits, and what the needed moves take.
+pub fn at_least<'a>(
+    shop: &'a [u16],
+    order: &'a [u16],
+    ends: &[u16],
+    starts: &[u16],
+    problem: Problem,
+) -> u16
+    requires { ⌜ Indexed (now shop) (now order) (now ends) (now starts) × (problem .waiting .count ≤ 64) ⌝ }
+    ensures { λ r. ⌜ ((k : ℕ) → k < r → (s₀ : State) (w₀ : List Network.Waiting) (y : Run.Step) (n : ℕ) → prunedOf k (domain (now (shop .entry))) s₀ w₀ y n (problem .atoms) (listOf (now (shop .entry)) (now (order .entry)) (problem .waiting)) ≡ none) ⌝ }
+{
+    let actions = word(shop, 1);
+    let table = makers::makers(shop, order, ends, starts);
+    let atoms = problem.atoms;
+    let waiting = problem.waiting;
+    let goals = Gathered::of_goals(shop, order, &atoms, table, actions, waiting);
+    let all = goals.closed(shop, order, ends, starts, &atoms, table, waiting);
+    waiting.count + all.weight
+}

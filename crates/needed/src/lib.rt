@@ -1,0 +1,3 @@
+// A number of steps that no accepted trace goes below: what every one must do. A search begins there.
+pub mod least;
+pub mod makers;

@@ -1,0 +1,230 @@
+// Which action alone makes a literal, which method alone has a node to which an action is relevant, and whether an action is relevant
+// to a waiting goal.
+use sheets::index;
+use sheets::index::Span;
+use sheets::position::Sheet;
+use sheets::rows::word;
+use sheets::tag;
+use steps::part;
+use steps::parts;
+use steps::waiting::Waiting;
+ghost use mathlib.Core.Path.{_≡_};
+ghost use mathlib.Core.Bool.{cond};
+ghost use mathlib.Core.List.{List, [], _∷_, zipWith};
+ghost use Prim.Native.Nat.{_-_, _<_, _≤_};
+ghost use lib.Dec.{eqb};
+ghost use lib.ListN.{length, getD, set};
+ghost use Rattle.hgn.specs.Lists.{any};
+ghost use Rattle.hgn.specs.Rows.{row};
+ghost use Rattle.hgn.specs.Meaning.{literals};
+ghost use Rattle.hgn.specs.State.{relevant};
+ghost use Rattle.hgn.specs.Run.{actionAt, methodAt};
+ghost use Rattle.hgn.specs.Shop.{domain, actionCount, methodCount};
+ghost use Rattle.steps.specs.Entries.{listOf, spanRows};
+ghost use Rattle.steps.specs.Entering.{Bounds, Walk};
+ghost use Rattle.steps.specs.Steps.{Indexed};
+ghost use Rattle.pruning.specs.Needed.{OnlyMethod};
+ghost use Rattle.needed.specs.Tables.{indexOf, OnlyMakers, actionSpan, boundRelevant, marked};
+
+// Stands where several actions make a literal: no action has this number.
+pub const MANY: u16 = 65535;
+
+// Where the table has a literal.
+pub fn index_of(atom: u16, sign: bool) -> usize
+    requires { ⌜ atom < 256 ⌝ }
+    ensures { λ r. ⌜ (r ≡ indexOf atom sign) × (r < 512) ⌝ }
+{
+    let at = atom as usize;
+    if sign {
+        return 2 * at + 1;
+    }
+    2 * at
+}
+
+// The rows of an action by its number.
+pub fn action_rows(starts: &[u16], action: u16) -> Span
+    requires { ⌜ (1 ≤ action) × (action < length (now starts)) ⌝ }
+    ensures { λ r. ⌜ r ≡ actionSpan (now (starts .entry)) action ⌝ }
+{
+    let at = action as usize;
+    let from = starts[at - 1];
+    let to = starts[at];
+    Span {
+        sheet: Sheet::Shop,
+        from: from,
+        to: to,
+    }
+}
+
+// The action set at a place of the table; `MANY` where another stands there.
+fn with_maker(table: [u16; 512], at: usize, action: u16) -> [u16; 512]
+    requires { ⌜ at < 512 ⌝ }
+    ensures { λ r. ⌜ r ≡ set table at (cond (eqb (getD table at 0) 0) action 65535) ⌝ }
+{
+    let mut next = table;
+    if table[at] == 0 {
+        next[at] = action;
+        return next;
+    }
+    next[at] = MANY;
+    next
+}
+
+// The action set at the literal that the row makes, if it makes one.
+fn with_row(table: [u16; 512], tag: u16, value: u16, action: u16) -> [u16; 512]
+    ensures { λ r. ⌜ r ≡ marked action (literals 5 6 (row tag value ∷ [])) table ⌝ }
+{
+    if value < 256 {
+        if tag == tag::MAKES_TRUE {
+            return with_maker(table, index_of(value, true), action);
+        }
+        if tag == tag::MAKES_FALSE {
+            return with_maker(table, index_of(value, false), action);
+        }
+    }
+    table
+}
+
+// The action set at each literal that its rows make.
+fn with_action(table: [u16; 512], tags: &[u16], values: &[u16], action: u16) -> [u16; 512]
+    ensures { λ r. ⌜ r ≡ marked action (literals 5 6 (zipWith row (now (tags .entry)) (now (values .entry)))) table ⌝ }
+{
+    let n = part::rows(tags, values);
+    let mut next = table;
+    let mut i = 0;
+    while i < n {
+        let more = with_row(next, tags[i], values[i], action);
+        next = more;
+        i += 1;
+    }
+    next
+}
+
+// For each literal the one action that makes it; 0 where none does, `MANY` where several do.
+pub fn makers<'a>(shop: &'a [u16], order: &'a [u16], ends: &[u16], starts: &[u16]) -> [u16; 512]
+    requires { ⌜ Indexed (now shop) (now order) (now ends) (now starts) ⌝ }
+    ensures { λ r. ⌜ OnlyMakers (domain (now (shop .entry))) r ⌝ }
+{
+    let count = word(shop, 1);
+    let mut table = [0; 512];
+    let mut action: u16 = 0;
+    while action < count {
+        action += 1;
+        let rows = action_rows(starts, action);
+        let tags = index::tags_of(rows, shop, order);
+        let values = index::values_of(rows, shop, order);
+        let more = with_action(table, tags, values, action);
+        table = more;
+    }
+    table
+}
+
+// The effects among these rows are relevant to a node from row `first` up to row `end`, along the table of ends.
+fn has_node_for<'a>(
+    shop: &'a [u16],
+    order: &'a [u16],
+    ends: &[u16],
+    first: u16,
+    end: u16,
+    effects: Span,
+) -> bool
+    requires { ⌜ ((bs : List Bounds) × Walk (now ends) end first bs) ⌝ }
+    ensures { λ r. ⌜ ((bs : List Bounds) → Walk (now (ends .entry)) end first bs → r ≡ any (boundRelevant (now (shop .entry)) (now (order .entry)) effects) bs) ⌝ }
+{
+    let mut row = first;
+    while row < end {
+        let from = row;
+        let at = row as usize;
+        row = ends[at];
+        let node = Span {
+            sheet: Sheet::Shop,
+            from: from,
+            to: row,
+        };
+        if parts::helps(
+            shop,
+            order,
+            effects,
+            tag::MAKES_TRUE,
+            tag::MAKES_FALSE,
+            node,
+        ) {
+            return true;
+        }
+    }
+    false
+}
+
+// The effects among these rows are relevant to a node of the method.
+fn method_has<'a>(
+    shop: &'a [u16],
+    order: &'a [u16],
+    ends: &[u16],
+    starts: &[u16],
+    effects: Span,
+    method: u16,
+) -> bool
+    requires { ⌜ Indexed (now shop) (now order) (now ends) (now starts) × (method < methodCount (now shop)) ⌝ }
+    ensures { λ r. ⌜ r ≡ any (λ n. relevant (literals 5 6 (spanRows (now (shop .entry)) (now (order .entry)) effects)) (n .formula)) (methodAt (domain (now (shop .entry))) method .nodes) ⌝ }
+{
+    let block = word(shop, 1) as usize + method as usize;
+    let from = starts[block];
+    let end = starts[block + 1];
+    let at = from as usize;
+    let first = ends[at];
+    has_node_for(shop, order, ends, first, end, effects)
+}
+
+// The method, by its number plus 1, that alone has a node to which this action is relevant; 0 where none or several have.
+pub fn only_method<'a>(
+    shop: &'a [u16],
+    order: &'a [u16],
+    ends: &[u16],
+    starts: &[u16],
+    action: u16,
+) -> u16
+    requires { ⌜ Indexed (now shop) (now order) (now ends) (now starts) × (1 ≤ action) × (action ≤ actionCount (now shop)) ⌝ }
+    ensures { λ r. ⌜ (1 ≤ r → (r ≤ methodCount (now (shop .entry))) × OnlyMethod (domain (now (shop .entry))) action (r - 1)) ⌝ }
+{
+    let effects = action_rows(starts, action);
+    let count = word(shop, 2);
+    let mut found: u16 = 0;
+    let mut method: u16 = 0;
+    while method < count {
+        let this = method;
+        method += 1;
+        if method_has(shop, order, ends, starts, effects, this) {
+            if 0 < found {
+                return 0;
+            }
+            found = method;
+        }
+    }
+    found
+}
+
+// The action is relevant to some waiting goal.
+pub fn wanted_by<'a>(
+    shop: &'a [u16],
+    order: &'a [u16],
+    ends: &[u16],
+    starts: &[u16],
+    waiting: Waiting,
+    action: u16,
+) -> bool
+    requires { ⌜ Indexed (now shop) (now order) (now ends) (now starts) × (1 ≤ action) × (action ≤ actionCount (now shop)) × (waiting .count ≤ 64) ⌝ }
+    ensures { λ r. ⌜ r ≡ any (λ g. relevant (actionAt (domain (now (shop .entry))) action .effects) (g .formula)) (listOf (now (shop .entry)) (now (order .entry)) waiting) ⌝ }
+{
+    let rows = action_rows(starts, action);
+    let count = waiting.count as usize;
+    let mut i = 0;
+    while i < count {
+        let goal = waiting.entries[i];
+        let wants = goal.rows;
+        if parts::helps(shop, order, rows, tag::MAKES_TRUE, tag::MAKES_FALSE, wants) {
+            return true;
+        }
+        i += 1;
+    }
+    false
+}
