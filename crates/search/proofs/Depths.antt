@@ -1,0 +1,88 @@
+-- The search by depth: what is found first, from one depth on. Assumes nothing.
+use Prim.Native.Nat.{ℕ, zero, suc, _+_, _-_, _<_, _≤_}
+use native.Mathlib.Omega.{arith}
+use mathlib.Core.Path.{_≡_, refl, sym, ap, _∙_}
+use mathlib.Core.Bool.{Bool, true, false}
+use mathlib.Core.List.{List}
+use mathlib.Core.Option.{Option, none, some}
+use lib.Dec.{leb}
+use borrow.Author.Tests.{leb-true, leb-false}
+use Rattle.hgn.specs.Lists.{from, firstSome}
+use Rattle.hgn.specs.Meaning.{Domain}
+use Rattle.hgn.specs.State.{State}
+use Rattle.hgn.specs.Network.{Waiting}
+use Rattle.hgn.specs.Run.{Step}
+use Rattle.pruning.specs.Pruned.{prunedOf, noStep, prunedShortest}
+use Rattle.search.specs.Founds.{stepsFrom, foundOf}
+use Rattle.search.specs.declared.found.Found.{Found}
+
+module _ {B : Type 0} (f : ℕ → Option B) (i k : ℕ) where
+  some-here : (y : B) → f i ≡ some y → firstSome f (from i (suc k)) ≡ some y
+  unfolding from firstSome
+  some-here y e = rw (e, firstSome)
+
+  none-here : f i ≡ none → firstSome f (from i (suc k)) ≡ firstSome f (from (suc i) k)
+  unfolding from firstSome
+  none-here e = rw (e, firstSome)
+
+module _ (depth : ℕ) (d : Domain) (s : State) (w : List Waiting) where
+  -- The first trace of so many steps.
+  abbrev pub atDepth : ℕ → Option (List Step)
+  atDepth k = prunedOf k d s w noStep 0 s w
+
+  -- No trace of fewer than `i` steps is found.
+  abbrev pub NoneBelow : ℕ → Type 0
+  NoneBelow i = prunedShortest depth d s w ≡ firstSome atDepth (from i (suc depth - i))
+
+  none-below : NoneBelow 0
+  unfolding prunedShortest
+  none-below = let q : suc depth ≡ suc depth - 0 = omega arith in ap {B = Option (List Step)} (λ (k : ℕ). firstSome atDepth (from 0 k)) q
+
+  module _ (i : ℕ) (h : i ≤ depth) (below : NoneBelow i) (r : Found) (e : foundOf 0 i r ≡ atDepth i) where
+    counted : prunedShortest depth d s w ≡ firstSome atDepth (from i (suc (depth - i)))
+    counted =
+        let q : suc depth - i ≡ suc (depth - i) = omega arith in
+        below ∙ ap {B = Option (List Step)} (λ (k : ℕ). firstSome atDepth (from i k)) q
+
+    pub found-first : r .found ≡ true → foundOf 0 i r ≡ prunedShortest depth d s w
+    found-first b =
+        let is : foundOf 0 i r ≡ some (stepsFrom 0 i r) = rw b refl in
+        is ∙ sym (some-here atDepth i (depth - i) (stepsFrom 0 i r) (sym e ∙ is)) ∙ sym counted
+
+    pub none-yet : r .found ≡ false → NoneBelow (i + 1)
+    none-yet b =
+        let is : foundOf 0 i r ≡ none = rw b refl in
+        let p : suc i ≡ i + 1 = omega arith in
+        let q : depth - i ≡ suc depth - (i + 1) = omega arith in
+        counted ∙ none-here atDepth i (depth - i) (sym e ∙ is)
+        ∙ ap {B = Option (List Step)} (λ (j : ℕ). firstSome atDepth (from j (depth - i))) p
+        ∙ ap {B = Option (List Step)} (λ (k : ℕ). firstSome atDepth (from (i + 1) k)) q
+
+  none-next : (i : ℕ) → NoneBelow i → atDepth i ≡ none → NoneBelow (suc i)
+  unfolding from firstSome
+  none-next i below e = go (leb i depth) refl
+    where
+      go : (b : Bool) → leb i depth ≡ b → NoneBelow (suc i)
+      go true h =
+          let p : i ≤ depth = leb-true i depth h in
+          let q : suc depth - i ≡ suc (suc depth - suc i) = omega arith in
+          below ∙ ap {B = Option (List Step)} (λ (k : ℕ). firstSome atDepth (from i k)) q ∙ none-here atDepth i (suc depth - suc i) e
+      go false h =
+          let p : depth < i = leb-false i depth h in
+          let q : suc depth - i ≡ 0 = omega arith in
+          let r : 0 ≡ suc depth - suc i = omega arith in
+          below ∙ ap {B = Option (List Step)} (λ (k : ℕ). firstSome atDepth (from i k)) q
+          ∙ ap {B = Option (List Step)} (λ (k : ℕ). firstSome atDepth (from (suc i) k)) r
+
+  -- Where none of fewer than `i` steps is found, the search may begin there.
+  pub none-from : (i : ℕ) → ((k : ℕ) → k < i → atDepth k ≡ none) → NoneBelow i
+  none-from zero h = none-below
+  none-from (suc i) h = none-next i (none-from i (λ k l. h k (omega arith))) (h i (omega arith))
+
+  -- None at all.
+  pub none-found : (i : ℕ) → depth < i → NoneBelow i → (r : Found) → r .found ≡ false → foundOf 0 depth r ≡ prunedShortest depth d s w
+  unfolding from firstSome
+  none-found i h below r b =
+      let q : suc depth - i ≡ 0 = omega arith in
+      let is : foundOf 0 depth r ≡ none = rw b refl in
+      is ∙ sym (below ∙ ap {B = Option (List Step)} (λ (k : ℕ). firstSome atDepth (from i k)) q)

@@ -1,0 +1,159 @@
+// The search's call. Document 01, "Questions" 41 to 43.
+use crate::explore;
+use crate::found::Found;
+use needed::least;
+use replay::first;
+use sheets::check;
+use sheets::check::Shop;
+use sheets::check::Verdict;
+use sheets::rows::Layout;
+use steps::moves::Move;
+use steps::problem::Problem;
+use steps::waiting::Place;
+ghost use mathlib.Core.Path.{_≡_};
+ghost use Prim.Native.Nat.{suc, _≤_, _+_};
+ghost use lib.ListN.{length};
+ghost use lib.Seq.{paste};
+ghost use Rattle.hgn.specs.Rows.{mostRows};
+ghost use Rattle.hgn.specs.Shop.{mostActions, mostMethods, domain};
+ghost use Rattle.hgn.specs.Verdict.{passed};
+ghost use Rattle.hgn.specs.Order.{checkOrder};
+ghost use Rattle.hgn.specs.Search.{searched};
+ghost use Rattle.steps.specs.Entries.{listOf};
+ghost use Rattle.steps.specs.Steps.{Indexed};
+ghost use Rattle.pruning.specs.Pruned.{prunedShortest};
+ghost use Rattle.search.specs.Founds.{shortestOf, traceOf, Called};
+
+// The first of the shortest traces and its length; or no trace, and then the depth.
+pub struct Shortest {
+    pub length: u16,
+    pub steps: Found,
+}
+
+// The first trace of as many steps as every trace has at least, or of one more, and so on up to `depth`.
+fn deepen<'a>(
+    shop: &'a [u16],
+    order: &'a [u16],
+    ends: &[u16],
+    starts: &[u16],
+    first: Problem,
+    depth: u16,
+) -> Shortest
+    requires { ⌜ Indexed (now shop) (now order) (now ends) (now starts) × (first .waiting .count ≤ 64) × (depth ≤ 32) ⌝ }
+    ensures { λ r. ⌜ (shortestOf r ≡ prunedShortest depth (domain (now (shop .entry))) (first .atoms) (listOf (now (shop .entry)) (now (order .entry)) (first .waiting))) × (r .length ≤ depth) ⌝ }
+{
+    let mut left = least::at_least(shop, order, ends, starts, first);
+    while left <= depth {
+        let steps = explore::places(
+            shop,
+            order,
+            ends,
+            starts,
+            first,
+            first,
+            Move::Release,
+            Place(0),
+            left,
+            0,
+        );
+        if steps.found {
+            return Shortest {
+                length: left,
+                steps: steps,
+            };
+        }
+        left += 1;
+    }
+    let steps = Found::empty(false);
+    Shortest {
+        length: depth,
+        steps: steps,
+    }
+}
+
+// On sheets that passed, with tables of these sizes.
+fn search_indexed<'a>(
+    shop: &'a [u16],
+    order: &'a [u16],
+    depth: u16,
+    ends: &mut [u16],
+    starts: &mut [u16],
+) -> Shortest
+    requires { ⌜ (checkOrder (now shop) (now order) ≡ passed) × (depth ≤ 32) ⌝ }
+    requires { ⌜ (mostRows ≤ length (now ends)) × (suc (mostActions + mostMethods) ≤ length (now starts)) ⌝ }
+    ensures { λ r. ⌜ (shortestOf r ≡ searched (now (shop .entry)) (now (order .entry)) depth) × (r .length ≤ depth) ⌝ }
+{
+    let first = first::prepared(shop, order, ends, starts);
+    deepen(shop, order, ends, starts, first, depth)
+}
+
+// The same, with tables of the largest sheet's size.
+fn search_checked<'a>(shop: &'a [u16], order: &'a [u16], depth: u16) -> Shortest
+    requires { ⌜ (checkOrder (now shop) (now order) ≡ passed) × (depth ≤ 32) ⌝ }
+    ensures { λ r. ⌜ (shortestOf r ≡ searched (now (shop .entry)) (now (order .entry)) depth) × (r .length ≤ depth) ⌝ }
+{
+    let mut ends = [0u16; Layout::MOST_ROWS as usize];
+    let mut starts = [0u16; Shop::MOST_BLOCKS + 1];
+    search_indexed(shop, order, depth, &mut ends, &mut starts)
+}
+
+// So many words, from `at` on.
+fn write_words(room: &mut [u16], at: usize, words: [u16; 32], count: usize)
+    requires { ⌜ (at + count ≤ length (now room)) × (count ≤ 32) ⌝ }
+    ensures { λ _. ⌜ now (room .exit) ≡ paste (now (room .entry)) at words count ⌝ }
+{
+    let mut i = 0;
+    while i < count {
+        room[at + i] = words[i];
+        i += 1;
+    }
+}
+
+// L, then L moves, then L places, into the first words of the room.
+fn write_trace(room: &mut [u16], found: Shortest)
+    requires { ⌜ (1 + (found .length + found .length) ≤ length (now room)) × (found .length ≤ 32) ⌝ }
+    ensures { λ _. ⌜ now (room .exit) ≡ traceOf found (now (room .entry)) ⌝ }
+{
+    let count = found.length as usize;
+    let steps = found.steps;
+    let moves = steps.moves;
+    let places = steps.places;
+    room[0] = found.length;
+    write_words(room, 1, moves, count);
+    write_words(room, 1 + count, places, count);
+}
+
+// Questions 1 to 9 and 11 to 18, then 41 to 43. Found, the trace stands in the first 1 + 2L words of the room.
+pub fn search<'a>(shop: &'a [u16], order: &'a [u16], depth: u16, room: &mut [u16]) -> Verdict
+    ensures { λ r. ⌜ Called (now (shop .entry)) (now (order .entry)) depth (now (room .entry)) r (now (room .exit)) ⌝ }
+{
+    let verdict = check::check_order(shop, order);
+    if verdict.number != 0 {
+        return verdict;
+    }
+    if Found::MOST < depth {
+        return Verdict {
+            number: 41,
+            place: 0,
+        };
+    }
+    if room.len() < 1 + 2 * depth as usize {
+        return Verdict {
+            number: 42,
+            place: 0,
+        };
+    }
+    let found = search_checked(shop, order, depth);
+    let steps = found.steps;
+    if steps.found {
+        write_trace(room, found);
+        return Verdict {
+            number: 0,
+            place: found.length,
+        };
+    }
+    Verdict {
+        number: 43,
+        place: 0,
+    }
+}

@@ -1,0 +1,41 @@
+// What a search comes to.
+ghost use mathlib.Core.Path.{_≡_};
+ghost use mathlib.Core.List.{_∷_};
+ghost use Prim.Native.Nat.{ℕ, suc, _+_, _<_};
+ghost use Rattle.hgn.specs.Trace.{step};
+ghost use Rattle.search.specs.Founds.{stepsFrom};
+
+// Whether a trace was found; its moves and places, each at the number of its step.
+pub struct Found {
+    pub found: bool,
+    pub moves: [u16; 32],
+    pub places: [u16; 32],
+}
+
+impl Found {
+    // The most steps of a search.
+    pub const MOST: u16 = 32;
+
+    // No trace, or one of no steps.
+    pub fn empty(found: bool) -> Found
+        ensures { λ r. ⌜ r .found ≡ found ⌝ }
+    {
+        Found {
+            found: found,
+            moves: [0; 32],
+            places: [0; 32],
+        }
+    }
+
+    // With the step of this number before the others.
+    pub fn with(self, number: u16, mv: u16, place: u16) -> Found
+        requires { ⌜ number < 32 ⌝ }
+        ensures { λ r. ⌜ (r .found ≡ self .found) × ((k : ℕ) → stepsFrom number (suc k) r ≡ step mv place ∷ stepsFrom (number + 1) k self) ⌝ }
+    {
+        let at = number as usize;
+        let mut next = self;
+        next.moves[at] = mv;
+        next.places[at] = place;
+        next
+    }
+}

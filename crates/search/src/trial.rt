@@ -1,0 +1,122 @@
+// One step of the search: taken, if it may be and is not left out.
+use crate::rules;
+use steps::moves::Move;
+use steps::problem::Problem;
+use steps::step;
+use steps::waiting::Entry;
+use steps::waiting::Place;
+ghost use mathlib.Core.Path.{_≡_};
+ghost use mathlib.Core.Bool.{true, false};
+ghost use Prim.Native.Nat.{_≤_, _<_};
+ghost use Rattle.hgn.specs.Network.{free, goalAt};
+ghost use Rattle.hgn.specs.Shop.{domain, actionCount, methodCount};
+ghost use Rattle.hgn.specs.Trace.{step};
+ghost use Rattle.steps.specs.Entries.{listOf, waitingOf};
+ghost use Rattle.steps.specs.Steps.{Indexed};
+ghost use Rattle.steps.specs.Moves.{Known, knownOf};
+ghost use Rattle.pruning.specs.Rules.{idle};
+ghost use Rattle.search.specs.Trials.{moveNumber, opens, Tries};
+
+// A step that was taken and kept, with the record that it leaves; or the record as it was.
+pub struct Tried {
+    pub kept: bool,
+    pub problem: Problem,
+}
+
+impl Tried {
+    // Left out, or refused.
+    pub fn out(problem: Problem) -> Tried
+        ensures { λ r. ⌜ (r .kept ≡ false) × (r .problem ≡ problem) ⌝ }
+    {
+        Tried {
+            kept: false,
+            problem: problem,
+        }
+    }
+}
+
+// What can be told from the state, the goal and the number waiting: the move may be taken there, is not idle, and leaves enough steps
+// for the releases.
+pub fn open_at<'a>(
+    shop: &'a [u16],
+    order: &'a [u16],
+    ends: &[u16],
+    starts: &[u16],
+    atoms: &[bool; 256],
+    goal: Entry,
+    left: u16,
+    count: u16,
+    mv: Move,
+) -> bool
+    requires { ⌜ Indexed (now shop) (now order) (now ends) (now starts) × Known (actionCount (now shop)) (methodCount (now shop)) mv × (left ≤ 32) ⌝ }
+    ensures { λ r. ⌜ r ≡ opens (domain (now (shop .entry))) (now (atoms .entry)) (waitingOf (now (shop .entry)) (now (order .entry)) goal) left count (knownOf mv) ⌝ }
+{
+    if rules::crowded(left, count, mv) {
+        return false;
+    }
+    if rules::ready(shop, order, ends, starts, atoms, goal, mv) {
+        if rules::wanted(shop, order, ends, starts, goal, mv) {
+            if rules::idle(shop, order, ends, starts, atoms, mv) {
+                return false;
+            }
+            return true;
+        }
+    }
+    false
+}
+
+// The move at a free goal where it is open, with so many steps left after it. The last step was taken from the record `before`.
+pub fn try_step<'a>(
+    shop: &'a [u16],
+    order: &'a [u16],
+    ends: &[u16],
+    starts: &[u16],
+    problem: Problem,
+    before: Problem,
+    last: Move,
+    last_place: Place,
+    left: u16,
+    number: u16,
+    mv: Move,
+    place: Place,
+) -> Tried
+    requires { ⌜ Indexed (now shop) (now order) (now ends) (now starts) ⌝ }
+    requires { ⌜ (place .0 < problem .waiting .count) × (problem .waiting .count ≤ 64) × (before .waiting .count ≤ 64) × (number < 65535) ⌝ }
+    requires { ⌜ Known (actionCount (now shop)) (methodCount (now shop)) last × Known (actionCount (now shop)) (methodCount (now shop)) mv ⌝ }
+    requires { ⌜ free (listOf (now shop) (now order) (problem .waiting)) (goalAt (listOf (now shop) (now order) (problem .waiting)) (place .0)) ≡ true ⌝ }
+    requires { ⌜ idle (domain (now shop)) (problem .atoms) (knownOf mv) ≡ false ⌝ }
+    ensures { λ r. ⌜ Tries (now (shop .entry)) (now (order .entry)) left before (step (moveNumber last) («last_place» .0)) problem number (step (moveNumber mv) (place .0)) r ⌝ }
+{
+    // Asked first, so that the record is not copied where no step can go first.
+    if rules::goes_first(last, last_place, mv, place) {
+        if rules::could_go_first(
+            shop,
+            order,
+            ends,
+            starts,
+            before,
+            last,
+            last_place,
+            mv,
+            place,
+        ) {
+            return Tried::out(problem);
+        }
+    }
+    let waiting = problem.waiting;
+    if rules::lower_too(shop, order, ends, starts, waiting, mv, place) {
+        return Tried::out(problem);
+    }
+    let stepped = step::take_move(shop, order, ends, starts, problem, number, mv, place);
+    if stepped.number != 0 {
+        return Tried::out(problem);
+    }
+    let next = stepped.problem;
+    if rules::too_few_left(shop, order, next, left) {
+        return Tried::out(problem);
+    }
+    Tried {
+        kept: true,
+        problem: next,
+    }
+}
