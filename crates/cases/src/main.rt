@@ -5,8 +5,11 @@ mod line;
 mod order;
 mod refusal;
 mod replayed;
+mod room;
+mod searched;
 mod sheet;
 mod shop;
+mod shortest;
 mod table;
 mod text;
 mod trace;
@@ -18,4 +21,5 @@ fn main() {
     derivation::run();
     refusal::run();
     limits::run();
+    shortest::run();
 }

@@ -1,7 +1,8 @@
 // A table of cases of one call, each on a line of its own: `- NAME; SHOP | ORDER | TRACE | ROOM`, with the parts that the call
-// takes.
+// takes. Where it takes D, that stands in the trace's place.
 use crate::line;
 use crate::replayed;
+use crate::searched;
 use crate::sheet;
 use crate::text::between;
 use crate::text::find;
@@ -14,6 +15,7 @@ pub enum Call {
     Order,
     Trace,
     Replay,
+    Search,
 }
 
 impl Call {
@@ -23,6 +25,7 @@ impl Call {
             Call::Order => line::text(b"order:"),
             Call::Trace => line::text(b"trace:"),
             Call::Replay => line::text(b"replay:"),
+            Call::Search => line::text(b"search:"),
         }
     }
 
@@ -32,6 +35,7 @@ impl Call {
             Call::Order => line::verdict(check_order(shop, order)),
             Call::Trace => line::verdict(check_trace(shop, order, trace)),
             Call::Replay => replayed::write(shop, order, trace, room),
+            Call::Search => searched::write(shop, order, trace, room),
         }
     }
 

@@ -1,9 +1,9 @@
--- `replayed::changed` is safe and ends: each turn leaves less of the room. Assumes nothing.
+-- `room::changed` is safe and ends: each turn leaves less of the room. Assumes nothing.
 use Prim.Native.Nat.{_-_}
 use borrow.Author.Needs.{needs}
 use lib.ListN.{length}
-use Rattle.cases.proofs.replayed.changed.Statement.{statement}
-use Rattle.cases.proofs.replayed.changed.Tie as tie
+use Rattle.cases.proofs.room.changed.Statement.{statement}
+use Rattle.cases.proofs.room.changed.Tie as tie
 
 abbrev Inv-loop : tie.InvT-loop
 Inv-loop room from at₀ at = Unit

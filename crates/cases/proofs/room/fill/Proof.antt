@@ -1,10 +1,10 @@
--- `replayed::fill` is safe and ends: the room keeps its length, and each turn leaves less of it. Assumes nothing.
+-- `room::fill` is safe and ends: the room keeps its length, and each turn leaves less of it. Assumes nothing.
 use mathlib.Core.Path.{_≡_}
 use Prim.Native.Nat.{_-_}
 use borrow.Author.Needs.{needs}
 use lib.ListN.{length}
-use Rattle.cases.proofs.replayed.fill.Statement.{statement}
-use Rattle.cases.proofs.replayed.fill.Tie as tie
+use Rattle.cases.proofs.room.fill.Statement.{statement}
+use Rattle.cases.proofs.room.fill.Tie as tie
 
 abbrev Inv-loop : tie.InvT-loop
 Inv-loop room₀ at₀ room at = length room ≡ length room₀

@@ -1,9 +1,9 @@
--- `replayed::end_of_words` goes on from `from`, and each turn leaves less of the words. Assumes nothing.
+-- `room::end_of_words` goes on from `from`, and each turn leaves less of the words. Assumes nothing.
 use Prim.Native.Nat.{_-_, _≤_}
 use borrow.Author.Needs.{needs}
 use lib.ListN.{length}
-use Rattle.cases.proofs.replayed.end_of_words.Statement.{statement}
-use Rattle.cases.proofs.replayed.end_of_words.Tie as tie
+use Rattle.cases.proofs.room.end_of_words.Statement.{statement}
+use Rattle.cases.proofs.room.end_of_words.Tie as tie
 
 abbrev Inv-loop : tie.InvT-loop
 Inv-loop words from at₀ at = from ≤ at

@@ -1,0 +1,56 @@
+// What a search answers and what it leaves in the room: `: NUMBER PLACE; length L; moves WORDS; places WORDS; rest kept`.
+// Refused, `: NUMBER PLACE; rest kept`, and the rest is the whole room.
+use crate::line;
+use crate::room;
+use search::call::search;
+use sheets::check::Verdict;
+use sheets::rows::word;
+
+// So many words of a room, or none where it has fewer.
+fn part(room: &[u16], from: usize, length: usize) -> &[u16] {
+    if from <= room.len() {
+        if length <= room.len() - from {
+            return &room[from..from + length];
+        }
+    }
+    &room[0..0]
+}
+
+// The trace of a length in a room's first words, and the words behind it.
+fn write_trace(room: &[u16], length: u16) {
+    let count = length as usize;
+    line::text(b"; length");
+    line::number(word(room, 0) as u64);
+    line::text(b"; moves");
+    room::write_list(part(room, 1, count));
+    line::text(b"; places");
+    room::write_list(part(room, 1 + count, count));
+    room::write_rest(room, 1 + 2 * count);
+}
+
+fn write_answer(answer: Verdict, room: &[u16]) {
+    line::text(b":");
+    line::number(answer.number as u64);
+    line::number(answer.place as u64);
+    if answer.number == 0 {
+        write_trace(room, answer.place);
+    } else {
+        room::write_rest(room, 0);
+    }
+    line::text(b"\n");
+}
+
+fn write_on<'a>(shop: &'a [u16], order: &'a [u16], depth: u16, room: &mut [u16]) {
+    room::fill(room);
+    let answer = search(shop, order, depth, room);
+    write_answer(answer, room);
+}
+
+// The answer on a room of the length that the text says, with the first word as D.
+pub fn write<'a>(shop: &'a [u16], order: &'a [u16], words: &[u16], text: &[u8]) {
+    let length = room::length_of(text);
+    let mut room = [0u16; room::MOST];
+    if length <= room::MOST {
+        write_on(shop, order, word(words, 0), &mut room[0..length]);
+    }
+}
