@@ -1,0 +1,55 @@
+-- A trace stepped through on the display, and the promise that it shows what the replay answers. Document 01, "How a derivation
+-- runs" and "Questions".
+use Prim.Native.Nat.{ℕ, suc}
+use mathlib.Core.Path.{_≡_}
+use mathlib.Core.Bool.{cond}
+use mathlib.Core.List.{List, [], _∷_}
+use lib.Dec.{eqb}
+use lib.ListN.{length}
+use Rattle.hgn.specs.Network.{goalsOf}
+use Rattle.hgn.specs.Run.{Step, Outcome, stopped, prepend, ended, startOf}
+use Rattle.hgn.specs.Shop.{domain}
+use Rattle.hgn.specs.Order.{order}
+use Rattle.hgn.specs.Trace.{stepCount, stepsOf}
+use Rattle.hgn.specs.Replay.{reported}
+use Rattle.hgn.specs.Demands.{InputsPass}
+use Rattle.steps.specs.Entries.{listOf}
+use Rattle.steps.specs.declared.problem.Problem.{Problem}
+use Rattle.replay.specs.Answers.{Called, actionMoves}
+use Rattle.replay.specs.Demands.{replayedOf}
+use Rattle.replay.specs.declared.answer.Answer.{Answer}
+use Rattle.display.specs.Forward.{Forward}
+
+-- A call of the display for step `x`, the trace's step number `n`, at the record that it holds.
+pub record Call (shop sheet : List ℕ) (n : ℕ) (x : Step) (before : Problem) : Type 0 where
+  pub answer : ℕ
+  pub after : Problem
+  pub forward : Forward shop sheet n x before answer after
+
+-- A call for each step from step number `n` on, each at the record that the one before it left.
+unfoldable pub Calls : List ℕ → List ℕ → ℕ → Problem → List Step → Type 0
+Calls shop sheet n b [] = Unit {0}
+Calls shop sheet n b (x ∷ xs) = (c : Call shop sheet n x b) × Calls shop sheet (suc n) (c .after) xs
+
+-- What they show: the first number that is not 0, and its step; or, after the last step, with nothing waiting the moves that are
+-- actions and the record's state, and else 33.
+unfoldable pub shownBy : (shop sheet : List ℕ) (n : ℕ) (b : Problem) (xs : List Step) → Calls shop sheet n b xs → Outcome
+unfolding Calls
+shownBy shop sheet n b [] cs = ended n (b .atoms) (listOf shop sheet (b .waiting))
+shownBy shop sheet n b (x ∷ xs) cs =
+    cond (eqb (cs .0 .answer) 0)
+    (prepend (actionMoves (length (domain shop .actions)) (x .move ∷ [])) (shownBy shop sheet (suc n) (cs .0 .after) xs (cs .1)))
+    (stopped (cs .0 .answer) n)
+
+-- The first record of an order: the state and the waiting list at first.
+pub record First (shop sheet : List ℕ) (b : Problem) : Type 0 where
+  pub state : b .atoms ≡ startOf (order sheet)
+  pub waiting : listOf shop sheet (b .waiting) ≡ goalsOf (order sheet)
+
+-- Stepping through a trace from the first record shows exactly what the replay answers and writes: the same number at the same step,
+-- or, with nothing waiting at the end, its state, plan and cost.
+abbrev pub ShowsReplay : Type 0
+ShowsReplay = (shop sheet trace room : List ℕ) (r : Answer) (exit : List ℕ) → InputsPass shop sheet trace room
+    → Called shop sheet trace room r exit
+    → (first : Problem) → First shop sheet first → (cs : Calls shop sheet 0 first (stepsOf trace))
+    → replayedOf r exit ≡ reported (domain shop) (stepCount trace) room (shownBy shop sheet 0 first (stepsOf trace) cs)

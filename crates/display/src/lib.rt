@@ -1,0 +1,3 @@
+// The stepping display: one record of atoms and waiting goals, moved forward where it is held. Document 01, "How a derivation runs".
+// No public call: its record must come from checked sheets (`replay::first::prepared`).
+pub mod forward;
