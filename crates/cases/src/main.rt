@@ -10,6 +10,8 @@ mod searched;
 mod sheet;
 mod shop;
 mod shortest;
+mod stepping;
+mod stepwise;
 mod table;
 mod text;
 mod trace;
@@ -22,4 +24,5 @@ fn main() {
     refusal::run();
     limits::run();
     shortest::run();
+    stepwise::run();
 }

@@ -4,6 +4,7 @@ use crate::line;
 use crate::replayed;
 use crate::searched;
 use crate::sheet;
+use crate::stepping;
 use crate::text::between;
 use crate::text::find;
 use sheets::check::check_order;
@@ -16,6 +17,7 @@ pub enum Call {
     Trace,
     Replay,
     Search,
+    Display,
 }
 
 impl Call {
@@ -26,6 +28,7 @@ impl Call {
             Call::Trace => line::text(b"trace:"),
             Call::Replay => line::text(b"replay:"),
             Call::Search => line::text(b"search:"),
+            Call::Display => line::text(b"display:"),
         }
     }
 
@@ -36,6 +39,7 @@ impl Call {
             Call::Trace => line::verdict(check_trace(shop, order, trace)),
             Call::Replay => replayed::write(shop, order, trace, room),
             Call::Search => searched::write(shop, order, trace, room),
+            Call::Display => stepping::write(shop, order, trace),
         }
     }
 

@@ -1,0 +1,114 @@
+// What the display shows of steps, one after the other: `: NUMBER WAITING, NUMBER WAITING`, the step's number and how many goals wait
+// after it. A refused step leaves the record as it was: the next one goes on from there, as the same step of the trace.
+use crate::line;
+use display::forward;
+use display::forward::Shown;
+use replay::first;
+use sheets::check::Shop;
+use sheets::check::check_order;
+use sheets::rows::Layout;
+use sheets::rows::word;
+use steps::problem::Problem;
+use steps::waiting::Place;
+ghost use mathlib.Core.Path.{_≡_};
+ghost use Prim.Native.Nat.{suc, _+_, _≤_, _<_};
+ghost use lib.ListN.{length};
+ghost use Rattle.hgn.specs.Rows.{mostRows};
+ghost use Rattle.hgn.specs.Shop.{mostActions, mostMethods};
+ghost use Rattle.hgn.specs.Order.{checkOrder};
+ghost use Rattle.hgn.specs.Verdict.{passed};
+ghost use Rattle.steps.specs.Steps.{Indexed};
+
+fn write_shown(shown: Shown) {
+    let problem = shown.problem;
+    let waiting = problem.waiting;
+    line::number(shown.number as u64);
+    line::number(waiting.count as u64);
+}
+
+// Only a step that is taken is counted.
+fn next_number(number: u16, answer: u16) -> u16
+    requires { ⌜ number < 65535 ⌝ }
+    ensures { λ r. ⌜ r ≤ number + 1 ⌝ }
+{
+    if answer == 0 {
+        return number + 1;
+    }
+    number
+}
+
+fn write_comma(at: usize) {
+    if 0 < at {
+        line::text(b",");
+    }
+}
+
+fn write_steps<'a>(
+    shop: &'a [u16],
+    order: &'a [u16],
+    trace: &[u16],
+    ends: &[u16],
+    starts: &[u16],
+    first: Problem,
+)
+    requires { ⌜ Indexed (now shop) (now order) (now ends) (now starts) ⌝ }
+    requires { ⌜ first .waiting .count ≤ 64 ⌝ }
+{
+    let steps = word(trace, 0) as usize;
+    let mut problem = first;
+    let mut number: u16 = 0;
+    let mut at: usize = 0;
+    while at < steps {
+        let mv = word(trace, 1 + at);
+        let place = word(trace, 1 + steps + at);
+        write_comma(at);
+        at += 1;
+        let shown = forward::show_step(
+            problem,
+            shop,
+            order,
+            ends,
+            starts,
+            number,
+            mv,
+            Place(place),
+        );
+        write_shown(shown);
+        problem = shown.problem;
+        number = next_number(number, shown.number);
+    }
+    line::text(b"\n");
+}
+
+fn write_indexed<'a>(
+    shop: &'a [u16],
+    order: &'a [u16],
+    trace: &[u16],
+    ends: &mut [u16],
+    starts: &mut [u16],
+)
+    requires { ⌜ checkOrder (now shop) (now order) ≡ passed ⌝ }
+    requires { ⌜ (mostRows ≤ length (now ends)) × (suc (mostActions + mostMethods) ≤ length (now starts)) ⌝ }
+{
+    let first = first::prepared(shop, order, ends, starts);
+    write_steps(shop, order, trace, ends, starts, first);
+}
+
+fn write_checked<'a>(shop: &'a [u16], order: &'a [u16], trace: &[u16])
+    requires { ⌜ checkOrder (now shop) (now order) ≡ passed ⌝ }
+{
+    let mut ends = [0u16; Layout::MOST_ROWS as usize];
+    let mut starts = [0u16; Shop::MOST_BLOCKS + 1];
+    write_indexed(shop, order, trace, &mut ends, &mut starts);
+}
+
+// The steps of a list, as a trace has them, on sheets that pass; else what their check answers.
+pub fn write<'a>(shop: &'a [u16], order: &'a [u16], trace: &[u16]) {
+    line::text(b":");
+    let verdict = check_order(shop, order);
+    if verdict.number == 0 {
+        write_checked(shop, order, trace);
+    } else {
+        line::verdict(verdict);
+    }
+}
