@@ -83,7 +83,7 @@ zip-short f (suc n) [] ys = omega arith
 zip-short f (suc n) (x ∷ xs) [] = omega arith
 zip-short f (suc n) (x ∷ xs) (y ∷ ys) = omega (arith, zip-short f n xs ys)
 
-steps-short : (trace : List ℕ) → length (stepsOf trace) ≤ stepCount trace
+pub steps-short : (trace : List ℕ) → length (stepsOf trace) ≤ stepCount trace
 unfolding stepsOf
 steps-short trace = zip-short step (stepCount trace) (drop 1 trace) _
 

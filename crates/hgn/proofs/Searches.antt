@@ -158,7 +158,7 @@ demand-2-of-search shop sheet depth room =
         λ h. solves-found shop sheet depth room (h .0) (h .1 .0) (h .1 .1) (h .1 .2),
       );
       results = results shop sheet depth room;
-      exists = λ p z. t z .1;
+      exists = λ z. t z .1;
       one-only = one-only shop sheet;
       none-iff = (
         none-found shop sheet depth room (report shop sheet depth room),

@@ -133,7 +133,7 @@ pub record SearchFindsFirst (shop sheet : List ℕ) (depth : ℕ) (room : List �
   -- and that is the first of the shortest, of which there is one only.
   pub results : (xs : List Step) → SearchPasses shop sheet depth room → FirstOfShortest shop sheet xs → length xs ≤ depth
       → Finds shop sheet room xs (search shop sheet depth room)
-  pub exists : SearchPasses shop sheet depth room → search shop sheet depth room .number ≡ 0
+  pub exists : search shop sheet depth room .number ≡ 0
       → (xs : List Step) × FirstOfShortest shop sheet xs × (length xs ≤ depth)
   pub one-only : (xs ys : List Step) → FirstOfShortest shop sheet xs → FirstOfShortest shop sheet ys → xs ≡ ys
   -- 43, the room unchanged, exactly when they pass and none of at most D steps is accepted.

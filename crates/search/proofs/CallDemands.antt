@@ -1,5 +1,6 @@
 -- The demands of document 00 hold of the call, by its contract and hgn's statements: `promised`. Assumes nothing.
 use Prim.Native.Nat.{ℕ, _+_, _*_, _≤_}
+use native.Mathlib.Omega.{arith}
 use mathlib.Core.Path.{_≡_, refl, sym, ap, ap₂, _∙_, subst}
 use mathlib.Core.Logic.{_≢_}
 use mathlib.Core.List.{List}
@@ -8,16 +9,17 @@ use lib.ListN.{length, take}
 use Rattle.hgn.specs.Run.{Step}
 use Rattle.hgn.specs.Verdict as Hgn
 use Rattle.hgn.specs.Verdict.{passed, refused}
-use Rattle.hgn.specs.Trace.{sizeWords}
+use Rattle.hgn.specs.Trace.{sizeWords, stepCount, stepsOf}
 use Rattle.hgn.specs.Search.{traceWords, searched, Searched, noTrace, written, checkSearch, search}
 use Rattle.hgn.specs.Replay.{replay}
 use Rattle.hgn.specs.Demands.{Solves, Finds}
 use Rattle.hgn.proofs.Demands.{proved}
+use Rattle.hgn.proofs.Replayed.{steps-short}
 use Rattle.sheets.specs.declared.check.Verdict.{Verdict}
 use Rattle.replay.specs.Answers as Replay
 use Rattle.replay.specs.declared.answer.Answer.{Answer}
 use Rattle.search.specs.Founds.{Called}
-use Rattle.search.specs.Demands.{searchedOf, Answers, FirstQuestion, Demand1OfCall, FirstTrace, Demand2OfCall, FoundIsAccepted, Promised}
+use Rattle.search.specs.Demands.{searchedOf, Answers, FirstQuestion, Demand1OfCall, FirstTrace, Demand2OfCall, FoundIsAccepted, NoneIsAccepted, Promised}
 
 -- Any number but 0 leaves the room as it was.
 unchanged : (shop sheet : List ℕ) (depth : ℕ) (room : List ℕ) → search shop sheet depth room .number ≢ 0
@@ -84,7 +86,7 @@ module _ {shop sheet : List ℕ} {depth : ℕ} {room : List ℕ} {r : Verdict} {
         results = λ e.
             let z = sym number-same ∙ e in
             let p = d .finds-iff .0 z .0 in
-            let x = d .exists p z in
+            let x = d .exists z in
             (x .0, x .1, x .2, subst (Finds shop sheet room (x .0)) (sym same) (d .results (x .0) p (x .1) (x .2)));
         none-iff = (
           λ h. d .none-iff .0 (by-answers 43 0 (h .0) (h .1)),
@@ -102,6 +104,13 @@ module _ {shop sheet : List ℕ} {depth : ℕ} {room : List ℕ} {r : Verdict} {
       ∙ ap (λ (t : List ℕ). replay shop sheet t plan .answer .number) w
       ∙ words-accepted shop sheet room (x .0) (searchedOf r exit) (x .3) (x .1 .solves) plan (rw⁻¹ (x .3 .place) l)
 
+  -- A replay that accepts is a derivation, which 43 says there is none of.
+  none-accepted : Answers 43 0 r → (trace plan : List ℕ) (a : Answer) (left : List ℕ)
+      → Replay.Called shop sheet trace plan a left → stepCount trace ≤ depth → a .number ≢ 0
+  none-accepted e trace plan a left c l z =
+      let h = proved .demand-2 shop sheet trace plan .accepts-iff .0 (sym (ap (λ (y : Answer). y .number) (c .answers)) ∙ z) in
+      first-trace .none-iff .0 (e, kept (λ n. let f : _≡_ {A = ℕ} 43 0 = sym (e .0) ∙ n in omega arith)) .1 (stepsOf trace) (omega (arith, steps-short trace)) (h .1)
+
 pub demand-1 : Demand1OfCall
 demand-1 shop sheet depth room r exit k = first-question k
 
@@ -111,5 +120,8 @@ demand-2 shop sheet depth room r exit k = first-trace k
 pub found-is-accepted : FoundIsAccepted
 found-is-accepted shop sheet depth room r exit k = found-accepted k
 
+pub none-is-accepted : NoneIsAccepted
+none-is-accepted shop sheet depth room r exit k = none-accepted k
+
 pub promised : Promised
-promised = record { demand-1 = demand-1; demand-2 = demand-2; found-is-accepted = found-is-accepted }
+promised = record { demand-1 = demand-1; demand-2 = demand-2; found-is-accepted = found-is-accepted; none-is-accepted = none-is-accepted }

@@ -7,7 +7,7 @@ use mathlib.Core.Logic.{_↔_, _≢_}
 use mathlib.Core.List.{List}
 use lib.ListN.{length, take}
 use Rattle.hgn.specs.Run.{Step}
-use Rattle.hgn.specs.Trace.{sizeWords}
+use Rattle.hgn.specs.Trace.{sizeWords, stepCount}
 use Rattle.hgn.specs.Search.{Searched}
 use Rattle.hgn.specs.Questions.{searchAsked, FirstNo, AllYes}
 use Rattle.hgn.specs.Demands.{Solves, FirstOfShortest, SearchPasses, Finds}
@@ -65,8 +65,16 @@ FoundIsAccepted = (shop sheet : List ℕ) (depth : ℕ) (room : List ℕ) (r : V
     → Replay.Called shop sheet (take (sizeWords + 2 * r .place) exit) plan a left
     → r .place ≤ length plan → a .number ≡ 0
 
+-- And after 43 no replay accepts a trace of at most D steps.
+abbrev pub NoneIsAccepted : Type 0
+NoneIsAccepted = (shop sheet : List ℕ) (depth : ℕ) (room : List ℕ) (r : Verdict) (exit : List ℕ) → Called shop sheet depth room r exit
+    → Answers 43 0 r
+    → (trace plan : List ℕ) (a : Answer) (left : List ℕ) → Replay.Called shop sheet trace plan a left
+    → stepCount trace ≤ depth → a .number ≢ 0
+
 -- All of it. What hgn's page says of the definitions is in replay's `Promised`.
 pub record Promised : Type 0 where
   pub demand-1 : Demand1OfCall
   pub demand-2 : Demand2OfCall
   pub found-is-accepted : FoundIsAccepted
+  pub none-is-accepted : NoneIsAccepted
