@@ -98,9 +98,3 @@ either-earlier (x ∷ xs) (y ∷ ys) l = places (either-earlier xs ys (omega ari
 -- Lists of one length, neither earlier, are equal.
 pub none-earlier : (xs ys : List Step) → length xs ≡ length ys → ¬ Earlier xs ys → ¬ Earlier ys xs → xs ≡ ys
 none-earlier xs ys l h k = ⊎-elim (λ e. e) (λ e. absurd (⊎-elim h k e)) (either-earlier xs ys l)
-
--- Only one list is best.
-pub best-only : {d : Domain} {n : ℕ} {s : State} {w : List Waiting} (xs ys : List Step) → Best d n s w xs → Best d n s w ys → xs ≡ ys
-best-only xs ys b c =
-    let l : length xs ≡ length ys = omega (arith, b .shortest ys (c .runs), c .shortest xs (b .runs)) in
-    none-earlier xs ys l (c .earliest xs (b .runs) l) (b .earliest ys (c .runs) (sym l))

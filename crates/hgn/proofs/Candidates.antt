@@ -214,7 +214,3 @@ module _ (d : Domain) where
     pub first-candidate : (y : B) → firstSome f (candidates d w) ≡ some y
         → (x : Step) × List·Memᴰ x (candidates d w) × (f x ≡ some y) × ((z : Step) → List·Memᴰ z (candidates d w) → Before z x → f z ≡ none)
     first-candidate y e = first-rising Before f before-apart (candidates d w) (candidates-rising b w) y e
-
-    pub found-candidate : (y : B) (x : Step) → List·Memᴰ x (candidates d w) → f x ≡ some y
-        → ((z : Step) → List·Memᴰ z (candidates d w) → Before z x → f z ≡ none) → firstSome f (candidates d w) ≡ some y
-    found-candidate y x m e h = found-rising Before f (candidates d w) (candidates-rising b w) y x m e h

@@ -387,28 +387,6 @@ unfolding domain domainOf actionOf literals
 effects-rise shop e a k =
     blocks 1 actionOf (λ a. Rising 0 (a .effects)) (λ p v rs g c. effects-rising c .0) (shop-passed shop e .rows) k
 
--- The 3 and 4 rows of an action rise, and none comes after its 5 and 6 rows.
-needs-rising : {F : ℕ} {p : Position} {rs : List Row} → Checked shopFollow F p rs
-    → (p .context ≡ inAction → Rising (p .least) (literals 3 4 (upTo opens rs)))
-    × (p .context ≡ inEffects → (b : ℕ) → Rising b (literals 3 4 (upTo opens rs)))
-unfolding advance contextAfter rises begins leastHere shopFollow among upTo literals
-needs-rising end = (λ e. tt, λ e b. tt)
-needs-rising (next {p} {r} {rs} allowed range rise c) =
-    let ih = needs-rising c in
-    literal-cases 3 4 (λ ls. (p .context ≡ inAction → Rising (p .least) ls) × (p .context ≡ inEffects → (b : ℕ) → Rising b ls)) r rs
-    (λ e. tt, λ e b. tt)
-    (λ t. (λ e. (leb-true _ _ (rw (e, leastHere) at (rw t at rise)), (rw t at (ih .0)) e), λ e b. absurd (false≢true (rw (t, e) at allowed))))
-    (λ t. (λ e. (leb-true _ _ (rw (e, leastHere) at (rw t at rise)), (rw t at (ih .0)) e), λ e b. absurd (false≢true (rw (t, e) at allowed))))
-    (λ one two three four.
-    (λ e. ih .1 (rw (one, two, rw (e, one, two, three, four) at allowed)) _, λ e. ih .1 (rw (one, two, rw (e, one, two) at allowed))))
-
--- An action's needs have rising atoms.
-pub action-needs-rise : (shop : List ℕ) → checkShop shop ≡ passed → (a : Action) → List·Memᴰ a (domain shop .actions)
-    → Rising 0 (a .needs)
-unfolding domain domainOf actionOf literals advance contextAfter begins among
-action-needs-rise shop e a k =
-    blocks 1 actionOf (λ a. Rising 0 (a .needs)) (λ p v rs g c. needs-rising c .0 refl) (shop-passed shop e .rows) k
-
 -- Every literal's atom is below `n`.
 abbrev pub AtomsBelow : ℕ → List Literal → Type 0
 AtomsBelow n ls = (l : Literal) → List·Memᴰ l ls → l .atom < n

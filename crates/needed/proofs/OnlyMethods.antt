@@ -17,7 +17,6 @@ use Rattle.hgn.proofs.Tests.{true-any, at-mem, at-of-lt, false-not-true}
 use Rattle.hgn.proofs.Checked.{shop-counts}
 use Rattle.sheets.specs.declared.index.Span.{Span}
 use Rattle.sheets.specs.declared.position.Sheet.the-variants as Of
-use Rattle.sheets.proofs.Laws.{told}
 use Rattle.steps.specs.Entries.{spanRows}
 use Rattle.steps.specs.Entering.{Bounds, Walk}
 use Rattle.steps.specs.Steps.{Indexed}

@@ -6,7 +6,7 @@ use mathlib.Core.Path.{_≡_, refl, ap, _∙_}
 use mathlib.Core.Bool.{Bool, true, false, cond}
 use mathlib.Core.List.{List, [], _∷_, _++_, map, flatten}
 use mathlib.Core.Option.{Option, none, some, orElse}
-use lib.Dec.{leb, eqb, leb·zero, eqb·suc-zero}
+use lib.Dec.{leb, leb·zero}
 use lib.ListN.{length, drop, getD, length-append, drop-of-length-le, List·getD-append}
 use lib.Seq.{drop-cons, getD-append-add}
 use borrow.Author.Tests.{leb-true, leb-false}
@@ -14,12 +14,11 @@ use Rattle.hgn.specs.Lists.{from, firstSome}
 use Rattle.hgn.specs.Meaning.{Domain}
 use Rattle.hgn.specs.State.{State}
 use Rattle.hgn.specs.Network.{Waiting, free, goalAt, mostWaiting}
-use Rattle.hgn.specs.Run.{Step, firstMethod, release, act, use-method, moveOf, Stepped, refused, taken, stepped}
+use Rattle.hgn.specs.Run.{Step, firstMethod, Stepped, refused, taken, stepped}
 use Rattle.hgn.specs.Trace.{step}
 use Rattle.hgn.specs.Search.{movesOf, stepsAt, candidates}
 use Rattle.hgn.proofs.Tests.{false-not-true}
 use Rattle.hgn.proofs.Steps.{took}
-use Rattle.hgn.proofs.Moves.{reads-action, reads-method}
 use Rattle.pruning.specs.Pruned.{behind, prunedOf, moveAt, movesFrom, placesFrom}
 
 -- Numbers in a row.
@@ -68,21 +67,6 @@ module _ (d : Domain) where
           let q : j ≡ length actions + (j - K) = omega (arith, length-from 1 K) in
           ap (λ (k : ℕ). getD (actions ++ methods) k 0) q ∙ getD-append-add actions methods (j - K) 0
           ∙ from-at firstMethod (length (d .methods)) (j - K) (omega (arith, moves-count)) ∙ omega arith
-
-  -- The move reads as the release, an action or a method.
-  pub move-read : (i : ℕ) → i < 1 + length (d .actions) + length (d .methods) → length (d .actions) ≤ 255
-      → moveOf d (moveAt d i) ≡ cond (eqb i 0) release (cond (leb i (length (d .actions))) (act i) (use-method (i - suc (length (d .actions)))))
-  unfolding moveAt moveOf
-  move-read zero h b = rw (leb·zero (length (d .actions))) refl
-  move-read (suc j) h b = rw (eqb·suc-zero j) (go (leb (suc j) K) refl)
-    where
-      K : ℕ
-      K = length (d .actions)
-
-      go : (b : Bool) → leb (suc j) K ≡ b
-          → moveOf d (cond b (suc j) (firstMethod + (suc j - suc K))) ≡ cond b (act (suc j)) (use-method (suc j - suc K))
-      go true e = reads-action d j (leb-true _ _ e)
-      go false e = let l : K < suc j = leb-false _ _ e in reads-method d (suc j - suc K) b (omega arith)
 
 -- Along a list.
 

@@ -1,6 +1,6 @@
 -- A step that could have gone first does not stand on the first of the shortest traces: with the two exchanged the trace is accepted
 -- too, and earlier. The two lists of goals differ only in the names of the two steps. Assumes nothing.
-use Prim.Native.Nat.{ℕ, suc, _+_, _≤_, _<_}
+use Prim.Native.Nat.{ℕ, suc, _≤_, _<_}
 use native.Mathlib.Omega.{arith}
 use mathlib.Core.Path.{_≡_, refl, sym, ap, ap₂, _∙_, subst, subst₂}
 use mathlib.Core.Bool.{Bool, true, false, cond, _&&_, Bool·beq, false≢true}

@@ -22,7 +22,7 @@ use Rattle.hgn.specs.Order.{order, rowCount, checkOrder}
 use Rattle.hgn.specs.Trace.{stepCount, stepsOf, traceQuestions, checkTrace}
 use Rattle.hgn.specs.Replay.{Replayed, refusal, replay}
 use Rattle.hgn.specs.Demands.{Accepts, Refuses, OnJoin, JoinRule}
-use Rattle.hgn.proofs.Checked.{andThen-passed, order-of-trace, shop-of-order, shop-actions, order-goals}
+use Rattle.hgn.proofs.Checked.{order-of-trace, shop-of-order, shop-actions, order-goals}
 use Rattle.hgn.proofs.Steps.{taken-state, taken-list}
 use Rattle.hgn.proofs.Waiting.{length-enter}
 use Rattle.hgn.proofs.Costs.{cost-append}
@@ -104,10 +104,6 @@ module _ {shop sheet trace : List ℕ} (k : Call shop sheet trace) where
 
   sheet-passes : checkOrder shop sheet ≡ passed
   sheet-passes = order-of-trace shop sheet trace (k .inputs .0)
-
-  trace-passes : traceQuestions trace ≡ passed
-  unfolding checkTrace
-  trace-passes = andThen-passed _ _ (k .inputs .0) .1
 
   accepting-runs : Accepting k → (plan : List ℕ) × (last : State) × (outcome ≡ accepted plan last)
   accepting-runs e =

@@ -14,7 +14,7 @@ use Rattle.hgn.specs.Meaning.{Domain, Action, firstValue, actionOf}
 use Rattle.hgn.specs.State.{State}
 use Rattle.hgn.specs.Network.{Waiting, mostWaiting}
 use Rattle.hgn.specs.Run as Run
-use Rattle.hgn.specs.Run.{Step, Move, actionAt, refused, taken, stepped, prepend, run, costOf}
+use Rattle.hgn.specs.Run.{Step, Move, actionAt, refused, taken, stepped, prepend, costOf}
 use Rattle.hgn.specs.Verdict.{passed}
 use Rattle.hgn.specs.Shop.{domain, rowCount, actionCount, shopRows, checkShop}
 use Rattle.hgn.specs.Trace.{step, stepsOf, stepCount}

@@ -5,7 +5,7 @@ use native.Mathlib.Nat.{not-suc-le-zero, le-of-suc-le-suc, add-zero, zero-add, a
 use mathlib.Core.Path.{_≡_, refl, sym, ap, ap₂, _∙_}
 use mathlib.Core.Bool.{Bool, true, false, cond, _||_}
 use mathlib.Core.List.{List, [], _∷_, _++_, zipWith}
-use lib.ListN.{length, getD, take, drop, length-take, length-drop, List·getD-append}
+use lib.ListN.{length, getD, take, drop, length-take, length-drop}
 use lib.Seq.{drop-cons, drop-drop, getD-take, getD-drop, ext-getD}
 use borrow.Author.Tests.{le-leb, lt-leb, eqb-true}
 use Rattle.hgn.specs.Lists.{upTo, parts}
@@ -31,12 +31,6 @@ module _ {A : Type 0} (q : A → Bool) where
   unfolding upTo
   upto-length [] = omega arith
   upto-length (x ∷ xs) = let ih = upto-length xs in by-test (q x) (λ e. rw e (omega arith)) (λ e. rw e (omega arith))
-
-  -- The element behind them passes it.
-  upto-next : (xs : List A) (d : A) → length (upTo q xs) < length xs → q (getD xs (length (upTo q xs)) d) ≡ true
-  unfolding upTo
-  upto-next [] d h = absurd (not-suc-le-zero h)
-  upto-next (x ∷ xs) d h = by-test (q x) (λ e. rw e e) (λ e. rw e (upto-next xs d (le-of-suc-le-suc (rw e at h))))
 
   -- Up to the first that passes `q`, and of those up to the first that passes `p`: up to the first that passes either.
   pub upto-upto : (p : A → Bool) (xs : List A) → upTo p (upTo q xs) ≡ upTo (λ x. q x || p x) xs
@@ -190,12 +184,6 @@ module _ (rows : List Row) (n : ℕ) (h : n < length rows) where
   pub part-end : (n < end) × (end ≤ length rows)
   part-end = (omega (arith, end-is), omega (arith, end-is, upto-length marks (drop (suc n) rows), length-drop (suc n) rows))
 
-  pub part-next : end < length rows → marks (getD rows end (row 0 0)) ≡ true
-  part-next g =
-      ap (λ m. marks (getD rows m (row 0 0))) end-is
-      ∙ ap marks (sym (getD-drop (suc n) rows (length (upTo marks (drop (suc n) rows))) (row 0 0)))
-      ∙ upto-next marks (drop (suc n) rows) (row 0 0) (omega (arith, end-is, length-drop (suc n) rows))
-
 -- From row `n` up to row `e` stand whole nodes, the last rows of a method or of an order sheet.
 pub record NodesFrom (rows : List Row) (n e : ℕ) : Type 0 where
   pub until : Until rows n e
@@ -297,9 +285,6 @@ pub ends-length : (rows : List Row) (i : ℕ) → length (ends i rows) ≡ lengt
 unfolding ends
 ends-length [] i = refl
 ends-length (r ∷ rows) i = ap suc (ends-length rows (suc i))
-
-pub read-end : (rows : List Row) (tail : List ℕ) (n : ℕ) → n < length rows → getD (ends 0 rows ++ tail) n 0 ≡ getD (ends 0 rows) n 0
-read-end rows tail n h = List·getD-append (ends 0 rows) tail 0 n (omega (arith, ends-length rows 0))
 
 -- Rows `from` up to `to` of a column, where the sheet has them and where not.
 module _ (words : List ℕ) (l : Layout) (column from to : ℕ) where

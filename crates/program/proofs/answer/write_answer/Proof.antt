@@ -3,7 +3,7 @@ use Prim.Native.Nat.{ℕ}
 use native.Mathlib.Omega.{arith}
 use mathlib.Core.Path.{ap}
 use borrow.Author.Needs.{needs}
-use lib.ListN.{length, replicate, length-take, length-replicate}
+use lib.ListN.{length, length-take, length-replicate}
 use Rattle.program.specs.Texts.{printed}
 use Rattle.program.proofs.Answering.{text-is}
 use Rattle.program.proofs.answer.write_answer.Statement.{statement}
