@@ -1,0 +1,24 @@
+-- What is written is the replay's answer, its state as bytes. Assumes nothing.
+use borrow.Author.Needs.{needs}
+use Rattle.capi.proofs.Leaving.{replay-left}
+use Rattle.capi.proofs.hgn_replay.Statement.{statement}
+use Rattle.capi.proofs.hgn_replay.Tie as tie
+
+returns : tie.Need-returns
+returns c =
+    let args = c .before .before .before .before .before .before .before .before .before .before .before .before .before .before .before .args in
+    replay-left (args .shop .now) (args .order .now) (args .trace .now) (args .plan .now)
+    (c .before .before .before .before .before .before .before .before .before .replay .ensures)
+    (c .bytes-of .ensures)
+
+pub hgn-replay-spec : {M : Type 1} → statement M
+hgn-replay-spec =
+    tie.close
+    (tie.spec
+    (λ c κs. search needs)
+    (λ c. search needs)
+    (λ c. search needs)
+    (λ c. search needs)
+    (λ c κs. search needs)
+    (λ c. search needs)
+    returns)

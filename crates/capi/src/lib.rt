@@ -1,0 +1,92 @@
+// The five public calls for a caller of C: plain names, and each answer written where the caller lends room for it. Document 01,
+// "Questions". `include/liropuva.h` declares them.
+use replay::call::replay;
+use search::call::search;
+use sheets::check;
+use steps::state::State;
+ghost use mathlib.Core.Path.{_≡_};
+ghost use Rattle.hgn.specs.Shop.{checkShop};
+ghost use Rattle.hgn.specs.Order.{checkOrder};
+ghost use Rattle.hgn.specs.Trace.{checkTrace};
+ghost use Rattle.hgn.specs.Replay as Replay;
+ghost use Rattle.hgn.specs.Search as Search;
+ghost use Rattle.capi.specs.Words.{verdictWords, stateBytes, ReplayLeft, SearchLeft};
+
+// A state's atoms as bytes: 1 for an atom that is in, 0 for one that is not.
+fn bytes_of(atoms: [bool; 256]) -> [u8; 256]
+    ensures { λ r. ⌜ r ≡ stateBytes atoms ⌝ }
+{
+    let mut bytes = [0u8; State::MOST];
+    let mut i = 0;
+    while i < State::MOST {
+        bytes[i] = atoms[i] as u8;
+        i += 1;
+    }
+    bytes
+}
+
+// Questions 1 to 9.
+#[no_mangle]
+pub extern "C" fn hgn_check_shop(shop: &[u16], answer: &mut [u32; 2])
+    ensures { λ _. ⌜ now (answer .exit) ≡ verdictWords (checkShop (now (shop .entry))) ⌝ }
+{
+    let shop_verdict = check::check_shop(shop);
+    *answer = [shop_verdict.number as u32, shop_verdict.place as u32];
+}
+
+// Questions 1 to 9, then 11 to 18.
+#[no_mangle]
+pub extern "C" fn hgn_check_order(shop: &[u16], order: &[u16], answer: &mut [u32; 2])
+    ensures { λ _. ⌜ now (answer .exit) ≡ verdictWords (checkOrder (now (shop .entry)) (now (order .entry))) ⌝ }
+{
+    let order_verdict = check::check_order(shop, order);
+    *answer = [order_verdict.number as u32, order_verdict.place as u32];
+}
+
+// Questions 1 to 9 and 11 to 18, then 21 to 23.
+#[no_mangle]
+pub extern "C" fn hgn_check_trace(shop: &[u16], order: &[u16], trace: &[u16], answer: &mut [u32; 2])
+    ensures { λ _. ⌜ now (answer .exit) ≡ verdictWords (checkTrace (now (shop .entry)) (now (order .entry)) (now (trace .entry))) ⌝ }
+{
+    let trace_verdict = check::check_trace(shop, order, trace);
+    *answer = [trace_verdict.number as u32, trace_verdict.place as u32];
+}
+
+// The sheets' questions, then 24 to 33. Accepted, the plan stands in the first words of its room.
+#[no_mangle]
+pub extern "C" fn hgn_replay<'a>(
+    shop: &'a [u16],
+    order: &'a [u16],
+    trace: &[u16],
+    plan: &mut [u16],
+    answer: &mut [u32; 4],
+    atoms: &mut [u8; 256],
+)
+    ensures { λ _. ⌜ ReplayLeft (Replay.replay (now (shop .entry)) (now (order .entry)) (now (trace .entry)) (now (plan .entry))) (now (plan .exit)) (now (answer .exit)) (now (atoms .exit)) ⌝ }
+{
+    let replayed = replay(shop, order, trace, plan);
+    let state = replayed.state;
+    let last = state.atoms;
+    *answer = [
+        replayed.number as u32,
+        replayed.place as u32,
+        replayed.count as u32,
+        replayed.cost,
+    ];
+    *atoms = bytes_of(last);
+}
+
+// Questions 1 to 9 and 11 to 18, then 41 to 43. Found, the trace stands in the first 1 + 2L words of the room.
+#[no_mangle]
+pub extern "C" fn hgn_search<'a>(
+    shop: &'a [u16],
+    order: &'a [u16],
+    depth: u16,
+    room: &mut [u16],
+    answer: &mut [u32; 2],
+)
+    ensures { λ _. ⌜ SearchLeft (Search.search (now (shop .entry)) (now (order .entry)) depth (now (room .entry))) (now (room .exit)) (now (answer .exit)) ⌝ }
+{
+    let found = search(shop, order, depth, room);
+    *answer = [found.number as u32, found.place as u32];
+}

@@ -1,0 +1,93 @@
+/*
+ * The five public calls of Liropuva for C: the checks of the three sheets, the replay of a trace, and the bounded search.
+ *
+ * Document 01 says what a shop sheet, an order sheet and a trace are ("The three sheets") and what is asked of them
+ * ("Questions"). Each call answers what the definitions of crates/hgn/specs say, for every input, refusals too: this is
+ * proved of crates/capi/src/lib.rt, where the contracts stand. Any words and any lengths may be passed.
+ *
+ * What a caller owes, and nothing checks:
+ * - A pointer is not null and is aligned for its type, also where its length is 0. Lengths count words, not bytes.
+ * - Behind it stand as many words as its length says; behind `answer` 2 or 4 words, behind `atoms` 256 bytes.
+ * - What is written (plan, room, answer, atoms) overlaps nothing else that is passed. The sheets are only read, and may
+ *   overlap each other.
+ * - Until the call returns, nothing else writes what is passed, and nothing else reads what is written.
+ *
+ * All memory stays the caller's: a call keeps no pointer, allocates nothing and frees nothing. What stands in `answer` and
+ * `atoms` before the call does not matter; both are written whole by every call, refused or not.
+ *
+ * There is no global state: calls may run in several threads at once, each on memory of its own; sheets may be shared.
+ *
+ * Stack, measured and read off the compiled code, since no proof bounds it: under 1 kB for the checks, under 32 kB for
+ * hgn_replay, which does not recurse, about 330 kB for hgn_search at depth 32 (some 9 kB for each step of depth).
+ *
+ * To link, on x86-64 Linux: `rt staticlib capi` proves the crate and writes target/staticlib/libcapi.a, which needs only
+ * memcpy and memset of the C library:  cc -Iinclude program.c target/staticlib/libcapi.a
+ */
+#ifndef LIROPUVA_H
+#define LIROPUVA_H
+
+#include <stddef.h>
+#include <stdint.h>
+
+#ifdef __cplusplus
+extern "C" {
+#endif
+
+/* The bytes of a state: as many for every shop, whatever its F. */
+#define HGN_ATOMS 256
+
+/* Words of plan that are enough for every trace. */
+#define HGN_MOST_PLAN_WORDS 4096
+
+/* The deepest search, and the words of room that it asks for: 1 + 2 * depth. */
+#define HGN_MOST_DEPTH 32
+#define HGN_MOST_TRACE_WORDS (1 + 2 * HGN_MOST_DEPTH)
+
+/*
+ * The checks. answer[0] is the number of the first question whose answer is no, answer[1] its place, 0 where document 01
+ * names none; 0 and 0 when passed. Each asks about all its sheets, in the order in which they are passed.
+ */
+void hgn_check_shop(const uint16_t *shop, size_t shop_words,
+                    uint32_t answer[2]);
+
+void hgn_check_order(const uint16_t *shop, size_t shop_words,
+                     const uint16_t *order, size_t order_words,
+                     uint32_t answer[2]);
+
+void hgn_check_trace(const uint16_t *shop, size_t shop_words,
+                     const uint16_t *order, size_t order_words,
+                     const uint16_t *trace, size_t trace_words,
+                     uint32_t answer[2]);
+
+/*
+ * The replay of a trace of L steps. answer is number, place, plan count, cost.
+ * Accepted: 0, L, the plan's length and cost. The plan, its action numbers in order, stands in the first words of `plan`,
+ * later words are unchanged; atoms[a] is 1 where atom a is in the last state, else 0.
+ * Refused: number and place as of a check, then 0 and 0; every byte of `atoms` is 0, and `plan` is unchanged.
+ * A `plan` of fewer than L words is refused with 24, even where the plan is shorter.
+ */
+void hgn_replay(const uint16_t *shop, size_t shop_words,
+                const uint16_t *order, size_t order_words,
+                const uint16_t *trace, size_t trace_words,
+                uint16_t *plan, size_t plan_words,
+                uint32_t answer[4], uint8_t atoms[HGN_ATOMS]);
+
+/*
+ * The search for a trace of at most `depth` steps that the replay accepts: fewest steps first; among equally long ones the
+ * first differing step decides, lower place, then lower move.
+ * Found: answer is 0 and L, and the trace stands in the first 1 + 2L words of `room`, later words unchanged.
+ * Refused: number and place as of a check, and `room` is unchanged; 41: depth above 32; 42: `room` of fewer than
+ * 1 + 2 * depth words; 43: there is no such trace.
+ * The time can grow exponentially with the depth.
+ */
+void hgn_search(const uint16_t *shop, size_t shop_words,
+                const uint16_t *order, size_t order_words,
+                uint16_t depth,
+                uint16_t *room, size_t room_words,
+                uint32_t answer[2]);
+
+#ifdef __cplusplus
+}
+#endif
+
+#endif

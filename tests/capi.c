@@ -1,0 +1,176 @@
+/*
+ * Calls the C interface on the long core of document 01 ("One core of sixty centimetres") and on sheets that are refused, and
+ * compares what is written, with the words before and after each room, which must stay.
+ */
+#include "liropuva.h"
+
+#include <stdio.h>
+#include <stdlib.h>
+#include <string.h>
+
+/* A pointer and a length, as each call takes a sheet. */
+#define SHEET(words) words, sizeof(words) / sizeof((words)[0])
+
+/* So many words before and after each room must stay. WORD and BYTE stand in them, and in the rooms before a call. */
+#define KEPT 4
+#define ROOM 40
+#define WORD 0xA55A
+#define BYTE 0xA5
+
+static const uint16_t shop[] = {
+    4, 4, 1, 28,
+    1, 5, 6, 1, 3, 5, 1, 3, 6, 5, 1, 3, 5, 2, 7, 8, 9, 7, 11, 8, 9, 7, 11, 8, 9, 7, 8, 9,
+    3, 0, 2, 10, 0, 1, 3, 1, 0, 2, 10, 2, 3, 0, 0, 0, 0, 0, 0, 0, 1, 0, 1, 0, 2, 0, 0, 3,
+};
+static const uint16_t order[] = {4, 1, 3, 7, 8, 9, 0, 0, 3};
+static const uint16_t trace[] = {10, 256, 1, 0, 2, 0, 3, 0, 4, 0, 0, 0, 0, 0, 0, 0, 0, 0, 0, 0, 0};
+static const uint16_t plan[] = {1, 2, 3, 4};
+
+/* Where the value of row 2 stands, `6 2`. With 0 it does not rise above the row before it, `5 0`. */
+static const size_t falling_value = 4 + 28 + 2;
+/* Without its last step. */
+static const uint16_t shorter[] = {9, 256, 1, 0, 2, 0, 3, 0, 4, 0, 0, 0, 0, 0, 0, 0, 0, 0, 0};
+/* The goal wants an atom that the shop does not have. */
+static const uint16_t foreign_atom[] = {4, 1, 3, 7, 8, 9, 0, 0, 4};
+
+static uint16_t room[KEPT + ROOM + KEPT];
+static uint32_t answer[KEPT + 4 + KEPT];
+static uint8_t atoms[KEPT + HGN_ATOMS + KEPT];
+
+static void fresh(void) {
+    for (size_t i = 0; i < sizeof room / sizeof room[0]; i++)
+        room[i] = WORD;
+    for (size_t i = 0; i < sizeof answer / sizeof answer[0]; i++)
+        answer[i] = WORD;
+    memset(atoms, BYTE, sizeof atoms);
+}
+
+static void fail(const char *name, const char *what, size_t at) {
+    printf("capi: %s: %s differs at %zu\n", name, what, at);
+    exit(1);
+}
+
+/* The answer is these words, and nothing beside it is written. */
+static void same_answer(const char *name, const uint32_t *wanted, size_t count) {
+    for (size_t i = 0; i < sizeof answer / sizeof answer[0]; i++)
+        if (answer[i] != (KEPT <= i && i - KEPT < count ? wanted[i - KEPT] : WORD))
+            fail(name, "the answer", i);
+}
+
+/* The room holds these words first; later words, and those beside it, are unchanged. */
+static void same_room(const char *name, const uint16_t *wanted, size_t count) {
+    for (size_t i = 0; i < sizeof room / sizeof room[0]; i++)
+        if (room[i] != (KEPT <= i && i - KEPT < count ? wanted[i - KEPT] : WORD))
+            fail(name, "the room", i);
+}
+
+/* The atoms from `first` to before `end` are in, no other, and nothing beside the atoms is written. */
+static void same_atoms(const char *name, size_t first, size_t end) {
+    for (size_t i = 0; i < sizeof atoms / sizeof atoms[0]; i++) {
+        int outside = i < KEPT || KEPT + HGN_ATOMS <= i;
+        if (atoms[i] != (outside ? BYTE : KEPT + first <= i && i < KEPT + end))
+            fail(name, "the atoms", i);
+    }
+}
+
+static void same_verdict(const char *name, uint32_t number, uint32_t place) {
+    const uint32_t wanted[] = {number, place};
+    same_answer(name, wanted, 2);
+}
+
+static void checks(void) {
+    uint16_t bad[sizeof shop / sizeof shop[0]];
+    memcpy(bad, shop, sizeof shop);
+    bad[falling_value] = 0;
+
+    fresh();
+    hgn_check_shop(SHEET(shop), answer + KEPT);
+    same_verdict("the shop", 0, 0);
+    fresh();
+    hgn_check_shop(SHEET(bad), answer + KEPT);
+    same_verdict("a row that does not rise", 6, 2);
+    fresh();
+    hgn_check_shop(shop, 0, answer + KEPT);
+    same_verdict("an empty shop", 1, 0);
+
+    fresh();
+    hgn_check_order(SHEET(shop), SHEET(order), answer + KEPT);
+    same_verdict("the order", 0, 0);
+    fresh();
+    hgn_check_order(SHEET(shop), SHEET(foreign_atom), answer + KEPT);
+    same_verdict("an atom that the shop does not have", 15, 2);
+
+    fresh();
+    hgn_check_trace(SHEET(shop), SHEET(order), SHEET(trace), answer + KEPT);
+    same_verdict("the trace", 0, 0);
+    fresh();
+    hgn_check_trace(SHEET(shop), SHEET(order), trace, 20, answer + KEPT);
+    same_verdict("a trace one word short", 23, 0);
+}
+
+/* The replay of these steps with so many words of room. */
+static void replayed(const uint16_t *steps, size_t count, size_t words) {
+    fresh();
+    hgn_replay(SHEET(shop), SHEET(order), steps, count, room + KEPT, words, answer + KEPT, atoms + KEPT);
+}
+
+static void replays(void) {
+    const uint32_t accepted[] = {0, 10, 4, 26};
+    const uint32_t unfinished[] = {33, 9, 0, 0};
+    const uint32_t no_room[] = {24, 0, 0, 0};
+
+    replayed(SHEET(trace), ROOM);
+    same_answer("the replay", accepted, 4);
+    same_room("the replay", SHEET(plan));
+    same_atoms("the replay", 1, 4);
+
+    replayed(SHEET(trace), 10);
+    same_answer("a room of L words", accepted, 4);
+    same_room("a room of L words", SHEET(plan));
+
+    replayed(SHEET(trace), 9);
+    same_answer("a room one word short", no_room, 4);
+    same_room("a room one word short", plan, 0);
+    same_atoms("a room one word short", 0, 0);
+
+    replayed(SHEET(shorter), ROOM);
+    same_answer("a trace without its last step", unfinished, 4);
+    same_room("a trace without its last step", plan, 0);
+    same_atoms("a trace without its last step", 0, 0);
+}
+
+/* The search of this depth with so many words of room. */
+static void searched(uint16_t depth, size_t words) {
+    fresh();
+    hgn_search(SHEET(shop), SHEET(order), depth, room + KEPT, words, answer + KEPT);
+}
+
+static void searches(void) {
+    searched(10, ROOM);
+    same_verdict("the search", 0, 10);
+    same_room("the search", SHEET(trace));
+
+    searched(10, 21);
+    same_verdict("a search in a room of 1 + 2D words", 0, 10);
+    same_room("a search in a room of 1 + 2D words", SHEET(trace));
+
+    searched(10, 20);
+    same_verdict("a search in a room one word short", 42, 0);
+    same_room("a search in a room one word short", trace, 0);
+
+    searched(9, ROOM);
+    same_verdict("a search of depth 9", 43, 0);
+    same_room("a search of depth 9", trace, 0);
+
+    searched(33, ROOM);
+    same_verdict("a search of depth 33", 41, 0);
+    same_room("a search of depth 33", trace, 0);
+}
+
+int main(void) {
+    checks();
+    replays();
+    searches();
+    puts("capi: ok");
+    return 0;
+}
