@@ -158,6 +158,25 @@ pub fn write(room: &mut [u16], sizes: u16, text: &[u8]) -> usize {
     pen.at
 }
 
+// Whether a text has no other bytes than those that sheets, and the bars between them, are written with.
+pub fn is_plain(text: &[u8]) -> bool {
+    let mut at = 0;
+    while at < text.len() {
+        if !is_plain_byte(text[at]) {
+            return false;
+        }
+        at += 1;
+    }
+    true
+}
+
+fn is_plain_byte(byte: u8) -> bool {
+    match byte {
+        b'0'..=b'9' | b' ' | b',' | b'(' | b')' | b'n' | b'|' => true,
+        _ => false,
+    }
+}
+
 // The first words of a room.
 pub fn front(room: &[u16], length: usize) -> &[u16] {
     if length < room.len() {

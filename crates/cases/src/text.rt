@@ -27,3 +27,40 @@ pub fn between(text: &[u8], from: usize, to: usize) -> &[u8] {
     }
     &text[0..0]
 }
+
+// The bytes before a place.
+pub fn front(text: &[u8], to: usize) -> &[u8] {
+    if to < text.len() {
+        return &text[0..to];
+    }
+    text
+}
+
+// The bytes from a place on.
+pub fn rest(text: &[u8], from: usize) -> &[u8] {
+    if from < text.len() {
+        return &text[from..];
+    }
+    &text[0..0]
+}
+
+pub fn begins(text: &[u8], word: &[u8]) -> bool {
+    if text.len() < word.len() {
+        return false;
+    }
+    let mut at = 0;
+    while at < word.len() {
+        if text[at] != word[at] {
+            return false;
+        }
+        at += 1;
+    }
+    true
+}
+
+pub fn equals(text: &[u8], word: &[u8]) -> bool {
+    if text.len() == word.len() {
+        return begins(text, word);
+    }
+    false
+}
