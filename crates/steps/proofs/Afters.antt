@@ -1,5 +1,6 @@
 -- Which goals come after which, and searches through rows and goals. Assumes nothing.
-use Prim.Native.Nat.{ℕ, _+_, _<_, _≤_}
+use Prim.Native.Nat.{ℕ, zero, suc, _+_, _<_, _≤_}
+use native.Mathlib.Nat.{not-suc-le-zero, le-of-suc-le-suc}
 use native.Mathlib.Omega.{arith}
 use native.Mathlib.Numerals.{add-one}
 use mathlib.Core.Path.{_≡_, refl, sym, ap, _∙_}
@@ -11,8 +12,6 @@ use lib.Seq.{drop-cons, length-take-le}
 use borrow.Author.Tests.{eqb-true, eqb-false, eq-eqb, ne-eqb, ltb-true, ltb-false}
 use Rattle.hgn.specs.Lists.{any, among, below}
 use Rattle.hgn.specs.Rows.{row, valuesOf}
-use Rattle.sheets.specs.Index as Index
-use Rattle.sheets.specs.Index.{tagsOf}
 use Rattle.hgn.specs.Network as Network
 use Rattle.hgn.specs.Network.{sameOrigin, isParent, comesAfter, free}
 use Rattle.hgn.proofs.Tests.{among-true, true-among, below-lt, lt-below, not-true-false}
@@ -55,6 +54,16 @@ module _ (n : ℕ) where
 
       pub stands-on : (eqb (getD ts i 0) 11 && eqb n (getD vs i 0)) ≡ false → stands n ts vs ≡ stands n (drop (i + 1) ts) (drop (i + 1) vs)
       stands-on e = turn ∙ rw e
+
+-- A row whose tag is no 11 adds no value to those of the 11 rows before it.
+pub no-after : (ts vs : List ℕ) (i : ℕ) → i < length ts → (getD ts i 0 ≡ 11 → ⊥)
+    → valuesOf 11 (zipWith row (take (suc i) ts) vs) ≡ valuesOf 11 (zipWith row (take i ts) vs)
+unfolding valuesOf zipWith
+no-after [] vs i h n = absurd (not-suc-le-zero h)
+no-after (t ∷ ts) [] zero h n = refl
+no-after (t ∷ ts) [] (suc i) h n = refl
+no-after (t ∷ ts) (v ∷ vs) zero h n = rw (ne-eqb t 11 n)
+no-after (t ∷ ts) (v ∷ vs) (suc i) h n = ap (λ (l : List ℕ). cond (eqb t 11) (v ∷ l) l) (no-after ts vs i (le-of-suc-le-suc h) n)
 
 -- A search through the `n` goals of an array that has come to place `i`: it ends there, has found one, or goes on.
 module _ {B : Type 0} (f : Entry → B) (l : List Entry) (n : ℕ) (fits : n ≤ length l) (test : B → Bool) (i : ℕ)
@@ -117,10 +126,10 @@ module _ (shop order : List ℕ) (goal : Entry) (k : ℕ) where
   unfolding waitingOf
   after-last e = rw (e, among-below)
 
-  pub after-rows : {ts vs : List ℕ} → goal .last ≡ false → ts ≡ tagsOf (goal .rows) shop order → vs ≡ Index.valuesOf (goal .rows) shop order
+  pub after-rows : (ts vs : List ℕ) → goal .last ≡ false → valuesOf 11 (zipWith row ts vs) ≡ valuesOf 11 (spanRows shop order (goal .rows))
       → stands k ts vs ≡ among k (waitingOf shop order goal .after)
-  unfolding waitingOf spanRows
-  after-rows e t v = rw (e, t, v)
+  unfolding waitingOf
+  after-rows ts vs e q = rw (e, q)
 
 module _ (shop order : List ℕ) (goal other : Entry) where
   -- Both are of one network, and the goal comes after the other there.

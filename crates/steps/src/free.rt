@@ -6,13 +6,20 @@ use sheets::index;
 use sheets::tag;
 ghost use mathlib.Core.Path.{_≡_};
 ghost use mathlib.Core.Bool.{_&&_};
-ghost use mathlib.Core.List.{zipWith};
-ghost use Prim.Native.Nat.{_≤_};
+ghost use mathlib.Core.List.{List, zipWith};
+ghost use Prim.Native.Nat.{ℕ, _≤_};
 ghost use lib.Dec.{eqb};
 ghost use Rattle.hgn.specs.Lists.{among};
 ghost use Rattle.hgn.specs.Rows.{row, valuesOf};
 ghost use Rattle.hgn.specs.Network.{comesAfter, free, anyFree};
-ghost use Rattle.steps.specs.Entries.{waitingOf, listOf, entryAt};
+ghost use Rattle.steps.specs.Entries.{spanRows, waitingOf, listOf, entryAt};
+ghost use Rattle.steps.specs.Seeing.{Sees};
+
+// A waiting goal, and whether it is free.
+pub struct Seen {
+    pub goal: Entry,
+    pub free: bool,
+}
 
 // The row is an 11 row with this number.
 fn is_after(tag: u16, value: u16, number: u16) -> bool
@@ -25,7 +32,7 @@ fn is_after(tag: u16, value: u16, number: u16) -> bool
 }
 
 // The number stands in the 11 rows of a node.
-pub fn stands_in_afters(tags: &[u16], values: &[u16], number: u16) -> bool
+fn stands_in_afters(tags: &[u16], values: &[u16], number: u16) -> bool
     ensures { λ r. ⌜ r ≡ among number (valuesOf 11 (zipWith row (now (tags .entry)) (now (values .entry)))) ⌝ }
 {
     let mut i = 0;
@@ -41,28 +48,41 @@ pub fn stands_in_afters(tags: &[u16], values: &[u16], number: u16) -> bool
     false
 }
 
-// The goal comes after the node of its network with this number: by its 11 rows, or as its method's last node.
-fn comes_after_node<'a>(shop: &'a [u16], order: &'a [u16], goal: Entry, number: u16) -> bool
-    ensures { λ r. ⌜ r ≡ among number (waitingOf (now (shop .entry)) (now (order .entry)) goal .after) ⌝ }
+// The tags up to the last 11, behind which no 11 row stands.
+fn after_tags(tags: &[u16]) -> &[u16]
+    ensures { λ r. ⌜ ((vs : List ℕ) → valuesOf 11 (zipWith row (now r) vs) ≡ valuesOf 11 (zipWith row (now (tags .entry)) vs)) ⌝ }
+{
+    let mut end = tags.len();
+    while 0 < end {
+        if tags[end - 1] == tag::AFTER {
+            return &tags[..end];
+        }
+        end -= 1;
+    }
+    &tags[..end]
+}
+
+// The goal, whose 11 rows are these, comes after the node of its network with this number: by its 11 rows, or as its method's last
+// node.
+fn comes_after_node(tags: &[u16], values: &[u16], goal: Entry, number: u16) -> bool
+    ensures { λ r. ⌜ ((shop order : List ℕ) → valuesOf 11 (zipWith row (now (tags .entry)) (now (values .entry))) ≡ valuesOf 11 (spanRows shop order (goal .rows)) → r ≡ among number (waitingOf shop order goal .after)) ⌝ }
 {
     let name = goal.name;
     if goal.last {
         return number < name.number;
     }
-    let rows = goal.rows;
-    let tags = index::tags_of(rows, shop, order);
-    let values = index::values_of(rows, shop, order);
     stands_in_afters(tags, values, number)
 }
 
-// The goal comes after the other: in their network, or because the other came with a method used at the goal.
-pub fn comes_after<'a>(shop: &'a [u16], order: &'a [u16], goal: Entry, other: Entry) -> bool
-    ensures { λ r. ⌜ r ≡ comesAfter (waitingOf (now (shop .entry)) (now (order .entry)) goal) (waitingOf (now (shop .entry)) (now (order .entry)) other) ⌝ }
+// The goal, whose 11 rows are these, comes after the other: in their network, or because the other came with a method used at the
+// goal.
+fn comes_after(tags: &[u16], values: &[u16], goal: Entry, other: Entry) -> bool
+    ensures { λ r. ⌜ ((shop order : List ℕ) → valuesOf 11 (zipWith row (now (tags .entry)) (now (values .entry))) ≡ valuesOf 11 (spanRows shop order (goal .rows)) → r ≡ comesAfter (waitingOf shop order goal) (waitingOf shop order other)) ⌝ }
 {
     let name = goal.name;
     let theirs = other.name;
     if name.origin == theirs.origin {
-        if comes_after_node(shop, order, goal, theirs.number) {
+        if comes_after_node(tags, values, goal, theirs.number) {
             return true;
         }
     }
@@ -72,22 +92,44 @@ pub fn comes_after<'a>(shop: &'a [u16], order: &'a [u16], goal: Entry, other: En
     name.same(other.parent)
 }
 
+// The goal at a place, and whether it is free. Its rows are cut out of the sheet once.
+pub fn look<'a>(shop: &'a [u16], order: &'a [u16], waiting: Waiting, place: Place) -> Seen
+    requires { ⌜ waiting .count ≤ 64 ⌝ }
+    ensures { λ r. ⌜ Sees (now (shop .entry)) (now (order .entry)) waiting (place .0) r ⌝ }
+{
+    let at = place.0 as usize;
+    let count = waiting.count as usize;
+    let mut goal = Entry::none();
+    if at < count {
+        goal = waiting.entries[at];
+    }
+    let rows = goal.rows;
+    let tags = after_tags(index::tags_of(rows, shop, order));
+    let values = index::values_of(rows, shop, order);
+    let mut i = 0;
+    while i < count {
+        let other = waiting.entries[i];
+        if comes_after(tags, values, goal, other) {
+            return Seen {
+                goal: goal,
+                free: false,
+            };
+        }
+        i += 1;
+    }
+    Seen {
+        goal: goal,
+        free: true,
+    }
+}
+
 // The goal at a place is free.
 pub fn is_free<'a>(shop: &'a [u16], order: &'a [u16], waiting: Waiting, place: Place) -> bool
     requires { ⌜ waiting .count ≤ 64 ⌝ }
     ensures { λ r. ⌜ r ≡ free (listOf (now (shop .entry)) (now (order .entry)) waiting) (waitingOf (now (shop .entry)) (now (order .entry)) (entryAt waiting (place .0))) ⌝ }
 {
-    let goal = waiting.goal(place);
-    let count = waiting.count as usize;
-    let mut i = 0;
-    while i < count {
-        let other = waiting.entries[i];
-        if comes_after(shop, order, goal, other) {
-            return false;
-        }
-        i += 1;
-    }
-    true
+    let seen = look(shop, order, waiting, place);
+    seen.free
 }
 
 // Some waiting goal is free.

@@ -9,8 +9,6 @@ pub comes-after-node-spec : {M : Type 1} → statement M
 comes-after-node-spec =
     tie.close
     (tie.spec
-    (λ c. search after-last)
+    (λ c shop order q. search after-last)
     (λ c κs. search needs)
-    (λ c κs. search needs)
-    (λ c κs. search needs)
-    (λ c. c .stands-in-afters .ensures ∙ search after-rows))
+    (λ c shop order q. c .stands-in-afters .ensures ∙ search (after-rows, q)))
