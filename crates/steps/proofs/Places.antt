@@ -3,10 +3,10 @@ use Prim.Native.Nat.{ℕ, zero, suc, _+_, _-_, _<_, _≤_}
 use native.Mathlib.Omega.{arith}
 use native.Mathlib.Numerals.{add-one}
 use native.Mathlib.Nat.{not-suc-le-zero, le-of-suc-le-suc}
-use mathlib.Core.Path.{_≡_, refl, sym, _∙_}
+use mathlib.Core.Path.{_≡_, refl, sym, ap, _∙_}
 use mathlib.Core.List.{List, [], _∷_, _++_}
 use lib.ListN.{length, take, drop, getD, set, length-take, length-drop, List·getD-eq-default}
-use lib.Seq.{paste, paste-suc, take-paste, take-take, take-add, drop-at, take-append-le, length-take-le, getD-drop, getD-take}
+use lib.Seq.{paste, paste-suc, take-paste, drop-paste, take-take, take-add, drop-at, take-append-le, length-take-le, getD-drop, getD-take}
 use Rattle.steps.specs.Entries.{without, Opened}
 use Rattle.steps.specs.declared.waiting.Entry.{Entry}
 
@@ -31,6 +31,21 @@ module _ {A : Type 0} (l : List A) where
   copy-more from to i z e p q =
       let h : i < length (drop from l) = simp length-drop (omega arith) in
       rw (e, ← getD-drop from l i z, add-one) (paste-suc l to (drop from l) i z p h)
+
+  -- The same, read from the array that is written: the entries from `to` + `i` on are as they were.
+  pub move-more : (from to i : ℕ) (z : A) {next : List A} → next ≡ paste l to (drop from l) i → to ≤ from → from + i < length l
+      → set next (to + i) (getD next (from + i) z) ≡ paste l to (drop from l) (i + 1)
+  move-more from to i z {next} e o q =
+      let h : i ≤ length (drop from l) = simp length-drop (omega arith) in
+      let n : to + i + (from - to) ≡ from + i = omega arith in
+      let kept : drop (to + i) next ≡ drop (to + i) l = rw e (drop-paste l to (drop from l) i (omega arith) h) in
+      let same : getD next (from + i) z ≡ getD l (from + i) z =
+      ap (λ (k : ℕ). getD next k z) (sym n)
+      ∙ sym (getD-drop (to + i) next (from - to) z)
+      ∙ ap (λ (r : List A). getD r (from - to) z) kept
+      ∙ getD-drop (to + i) l (from - to) z
+      ∙ ap (λ (k : ℕ). getD l k z) n in
+      ap (set next (to + i)) same ∙ copy-more from to i z e (omega arith) q
 
   -- After a copy of `k` entries: those before `to` are as they were, and the `k` behind them are those that were counted from `from` on.
   copied : (from to k m n : ℕ) → m ≡ to + k → n ≡ from + k → m ≤ length l → n ≤ length l

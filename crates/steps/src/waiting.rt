@@ -45,6 +45,22 @@ fn shifted(entries: [Entry; 64], from: usize, to: usize, number: usize) -> [Entr
     next
 }
 
+// The entries with the `number` behind place `at` moved down by one, over it: where they stand, as each is read before it is written
+// over.
+fn closed(entries: [Entry; 64], at: usize, number: usize) -> [Entry; 64]
+    requires { ⌜ at + 1 + number ≤ 64 ⌝ }
+    ensures { λ r. ⌜ r ≡ paste entries at (drop (at + 1) entries) number ⌝ }
+{
+    let mut next = entries;
+    let mut i = 0;
+    while i < number {
+        let later = next[at + 1 + i];
+        next[at + i] = later;
+        i += 1;
+    }
+    next
+}
+
 impl Name {
     pub fn same(self, other: Name) -> bool
         ensures { λ r. ⌜ r ≡ sameName self other ⌝ }
@@ -116,7 +132,7 @@ impl Waiting {
         let later = self.count as usize - at - 1;
         let entries = self.entries;
         Waiting {
-            entries: shifted(entries, at + 1, at, later),
+            entries: closed(entries, at, later),
             count: self.count - 1,
         }
     }

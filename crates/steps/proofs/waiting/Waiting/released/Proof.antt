@@ -18,7 +18,6 @@ released-spec =
     (λ c. search needs)
     (λ c. search needs)
     (λ c. search needs)
-    (λ c. search needs)
     (λ c κs. search needs)
     (λ c. search needs)
     (λ c. search (goal-out, fits (c .before .before .before .before .before), arith)))
