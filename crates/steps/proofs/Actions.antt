@@ -91,7 +91,7 @@ module _ {shop order endTable startTable : List ℕ} (i : Indexed shop order end
     took-method {r} e t = subst (λ m. Took shop order n problem p m r) (sym e) t
 
 -- A move that was read is known.
-known-read : (n actions methods : ℕ) (m : Move) → knownOf m ≡ moveRead n actions methods → Known actions methods m
+pub known-read : (n actions methods : ℕ) (m : Move) → knownOf m ≡ moveRead n actions methods → Known actions methods m
 unfolding moveRead
 known-read n actions methods m e =
     go m (eqb n 0) (leb n actions) (leb firstMethod n && ltb n (firstMethod + methods)) refl refl refl e

@@ -16,3 +16,5 @@ pub mod Taken
 pub mod Uses
 pub mod Used
 pub mod Actions
+pub mod Decided
+pub mod Decomposing

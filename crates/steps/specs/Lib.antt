@@ -4,4 +4,5 @@ pub mod Entries
 pub mod Seeing
 pub mod Moves
 pub mod Steps
+pub mod Deciding
 pub mod Entering

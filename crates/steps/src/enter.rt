@@ -5,12 +5,18 @@ use crate::waiting::Place;
 use crate::waiting::Waiting;
 use sheets::index::Span;
 use sheets::position::Sheet;
+use sheets::rows::word;
 ghost use mathlib.Core.Path.{_≡_};
 ghost use mathlib.Core.List.{List, _++_};
-ghost use Prim.Native.Nat.{_≤_, _+_};
+ghost use Prim.Native.Nat.{ℕ, _<_, _≤_, _+_};
 ghost use lib.ListN.{length, take, drop};
-ghost use Rattle.steps.specs.Entries.{entriesOf};
+ghost use Rattle.hgn.specs.Meaning.{networkOf};
+ghost use Rattle.hgn.specs.Network.{decomposed};
+ghost use Rattle.hgn.specs.Run.{methodAt};
+ghost use Rattle.hgn.specs.Shop.{domain, methodCount};
+ghost use Rattle.steps.specs.Entries.{entriesOf, entryAt, listOf};
 ghost use Rattle.steps.specs.Entering.{Bounds, Walk, Counted, entryOf, entriesFrom};
+ghost use Rattle.steps.specs.Steps.{Indexed};
 
 // The nodes of a part: how many, and where the last starts.
 pub struct Nodes {
@@ -126,5 +132,37 @@ impl Waiting {
             number += 1;
         }
         next
+    }
+
+    // The nodes of a method, used at step `number` at the goal of a place, whose name is `parent`, enter directly before it.
+    pub fn decomposed(
+        self,
+        shop: &[u16],
+        ends: &[u16],
+        starts: &[u16],
+        number: u16,
+        method: u16,
+        parent: Name,
+        place: Place,
+    ) -> Waiting
+        requires { ⌜ ((order : List ℕ) × Indexed (now shop) order (now ends) (now starts)) ⌝ }
+        requires { ⌜ (method < methodCount (now shop)) × (number < 65535) × (place .0 < self .count) × (parent ≡ entryAt self (place .0) .name) ⌝ }
+        requires { ⌜ self .count + length (networkOf (methodAt (domain (now shop)) method)) ≤ 64 ⌝ }
+        ensures { λ r. ⌜ ((order : List ℕ) → Indexed (now (shop .entry)) order (now (ends .entry)) (now (starts .entry)) → listOf (now (shop .entry)) order r ≡ decomposed (listOf (now (shop .entry)) order self) (place .0) number (networkOf (methodAt (domain (now (shop .entry))) method))) ⌝ }
+        ensures { λ r. ⌜ r .count ≤ 64 ⌝ }
+    {
+        let block = word(shop, 1) as usize + method as usize;
+        let from = starts[block];
+        let end = starts[block + 1];
+        let at = from as usize;
+        let first = ends[at];
+        let nodes = nodes_between(ends, first, end);
+        let network = Network {
+            sheet: Sheet::Shop,
+            origin: number,
+            parent: parent,
+            method: true,
+        };
+        self.entered(ends, network, first, end, nodes.count, place)
     }
 }

@@ -7,6 +7,7 @@ pub mod moves;
 pub mod part;
 pub mod parts;
 pub mod problem;
+pub mod questions;
 pub mod state;
 pub mod step;
 pub mod waiting;

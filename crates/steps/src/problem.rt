@@ -12,12 +12,13 @@ use sheets::rows::word;
 use sheets::tag;
 ghost use mathlib.Core.Path.{_≡_};
 ghost use mathlib.Core.List.{List};
-ghost use Prim.Native.Nat.{_≤_, _<_, _+_};
+ghost use Prim.Native.Nat.{ℕ, _≤_, _<_, _+_};
 ghost use lib.ListN.{length};
 ghost use Rattle.hgn.specs.Meaning.{literals};
 ghost use Rattle.hgn.specs.State.{γ};
 ghost use Rattle.hgn.specs.Run as Run;
-ghost use Rattle.hgn.specs.Shop.{domain, methodCount};
+ghost use Rattle.hgn.specs.Run.{actionAt};
+ghost use Rattle.hgn.specs.Shop.{domain, actionCount, methodCount};
 ghost use Rattle.steps.specs.Entries.{listOf, spanRows};
 ghost use Rattle.steps.specs.Entering.{Bounds, Walk};
 ghost use Rattle.steps.specs.Steps.{Stepped as Is, Indexed, Grown, ifFree, releaseStepped, actionStepped};
@@ -206,4 +207,27 @@ pub fn changed<'a>(atoms: [bool; 256], shop: &'a [u16], order: &'a [u16], rows: 
     let values = index::values_of(rows, shop, order);
     let less = state::assigned(atoms, tags, values, tag::MAKES_FALSE, false);
     state::assigned(less, tags, values, tag::MAKES_TRUE, true)
+}
+
+// The state after an action by its number.
+pub fn acted<'a>(
+    atoms: [bool; 256],
+    shop: &'a [u16],
+    order: &'a [u16],
+    starts: &[u16],
+    action: u16,
+) -> [bool; 256]
+    requires { ⌜ ((ends : List ℕ) × Indexed (now shop) (now order) ends (now starts)) ⌝ }
+    requires { ⌜ (1 ≤ action) × (action ≤ actionCount (now shop)) ⌝ }
+    ensures { λ r. ⌜ r ≡ γ atoms (actionAt (domain (now (shop .entry))) action .effects) ⌝ }
+{
+    let at = action as usize;
+    let from = starts[at - 1];
+    let to = starts[at];
+    let rows = Span {
+        sheet: Sheet::Shop,
+        from: from,
+        to: to,
+    };
+    changed(atoms, shop, order, rows)
 }
