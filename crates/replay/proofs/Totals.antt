@@ -115,6 +115,40 @@ ended-answer d steps done s [] = rw (append-nil done) refl
 ended-answer d steps done s (g ∷ w) =
     sym (ap (λ (b : Bool). answerOf (cond b (record { number = 0; place = steps; state = s; count = length done; cost = costOf d done }) (refusal [] 33 steps .answer))) (ne-eqb (length (g ∷ w)) 0 (omega arith)))
 
+-- A run in progress, and its next step.
+module _ (shop trace : List ℕ) (fits : 1 + (stepCount trace + stepCount trace) ≤ length trace) (s₀ : State) (w₀ : List Waiting)
+    (i : ℕ) (s : State) (w : List Waiting) (count cost : ℕ) (going : Running (domain shop) (stepsOf trace) s₀ w₀ i s w count cost)
+    (h : i < stepCount trace) (move place : ℕ) (m : move ≡ getD trace (1 + i) 0) (p : place ≡ getD trace (1 + stepCount trace + i) 0) where
+  next-is : getD (stepsOf trace) i (record { move = 0; place = 0 }) ≡ record { move = move; place = place }
+  next-is = step-at trace fits i h ∙ ap₂ {C = Step} (λ a b. record { move = a; place = b }) (sym m) (sym p)
+
+  next-inside : i < length (stepsOf trace)
+  next-inside = omega (arith, steps-length trace fits)
+
+  -- Refused, the run ends.
+  pub run-stops : (q : ℕ) → stepped mostWaiting (domain shop) i s w (record { move = move; place = place }) ≡ refused q
+      → answerOf (refusal [] q i .answer) ≡ runAnswer shop trace s₀ w₀
+  unfolding reported
+  run-stops q e =
+      sym (ap (λ (o : Run.Outcome). answerOf (reported (domain shop) (stepCount trace) [] o .answer))
+      (running-stop (domain shop) (stepsOf trace) s₀ w₀ i s w count cost going next-inside (record { move = move; place = place }) next-is q e))
+
+  -- Taken with no action.
+  pub run-on : (s′ : State) (w′ : List Waiting) → stepped mostWaiting (domain shop) i s w (record { move = move; place = place }) ≡ taken [] s′ w′
+      → Running (domain shop) (stepsOf trace) s₀ w₀ (i + 1) s′ w′ count cost
+  unfolding costOf
+  run-on s′ w′ e =
+      running-next (domain shop) (stepsOf trace) s₀ w₀ i s w count cost going next-inside (record { move = move; place = place }) next-is [] s′ w′ count cost e
+      (omega arith) (omega arith) (omega arith) (omega arith)
+
+  -- Taken with an action.
+  pub run-acts : (k : ℕ) (s′ : State) (price : ℕ) → stepped mostWaiting (domain shop) i s w (record { move = move; place = place }) ≡ taken (k ∷ []) s′ w
+      → price ≡ costOf (domain shop) (k ∷ []) → price ≤ 65535
+      → Running (domain shop) (stepsOf trace) s₀ w₀ (i + 1) s′ w (count + 1) (cost + price)
+  run-acts k s′ price e q small =
+      running-next (domain shop) (stepsOf trace) s₀ w₀ i s w count cost going next-inside (record { move = move; place = place }) next-is (k ∷ []) s′ w (count + 1) (cost + price) e
+      (omega arith) (omega arith) (omega arith) (omega arith)
+
 -- A run in progress, and the code's next step.
 module _ (shop order trace : List ℕ) (fits : 1 + (stepCount trace + stepCount trace) ≤ length trace) (s₀ : State) (w₀ : List Waiting)
     (i : ℕ) (problem : Problem) (count cost : ℕ) (going : Running (domain shop) (stepsOf trace) s₀ w₀ i (problem .atoms) (listOf shop order (problem .waiting)) count cost)

@@ -3,9 +3,14 @@ use crate::answer::Answer;
 use sheets::rows::Layout;
 use sheets::rows::Row;
 use sheets::rows::word;
+use steps::free::look;
+use steps::moves::Move;
 use steps::problem::Problem;
+use steps::problem::acted;
+use steps::questions::Decision;
+use steps::questions::decide;
+use steps::questions::told;
 use steps::state::State;
-use steps::step;
 use steps::waiting::Place;
 ghost use mathlib.Core.Path.{_≡_};
 ghost use Prim.Native.Nat.{_≤_, _<_, _+_, _-_};
@@ -46,27 +51,66 @@ pub fn run<'a>(
 {
     let steps = word(trace, 0) as usize;
     let rows = word(shop, 3) as usize;
-    let mut problem = first;
+    // Apart, so that a step changes the one and leaves the other where it stands.
+    let mut atoms = first.atoms;
+    let mut waiting = first.waiting;
     let mut count: u16 = 0;
     let mut cost: u32 = 0;
     let mut i: usize = 0;
     while i < steps {
         let number = i as u16;
         let mv = word(trace, 1 + i);
-        let place = word(trace, 1 + steps + i);
+        let place = Place(word(trace, 1 + steps + i));
         i += 1;
-        let stepped = step::step(shop, order, ends, starts, problem, number, mv, Place(place));
-        if stepped.number != 0 {
-            return Answer::refused(stepped.number, number);
-        }
-        problem = stepped.problem;
-        let action = stepped.action;
-        if 0 < action {
-            let price = cost_of(shop, starts, rows, action);
-            count += 1;
-            cost += price as u32;
+        let seen = look(shop, order, waiting, place);
+        let decision = decide(
+            shop,
+            order,
+            ends,
+            starts,
+            &atoms,
+            seen,
+            waiting.count,
+            mv,
+            place,
+        );
+        match decision {
+            Decision::Refused(question) => {
+                return Answer::refused(told(shop, order, waiting, question), number);
+            }
+            Decision::Takes(known) => match known {
+                Move::Release => {
+                    let next = waiting.released(place);
+                    waiting = next;
+                }
+                Move::Act(action) => {
+                    let next = acted(atoms, shop, order, starts, action);
+                    atoms = next;
+                    let price = cost_of(shop, starts, rows, action);
+                    count += 1;
+                    cost += price as u32;
+                }
+                Move::Use(method) => {
+                    let goal = seen.goal;
+                    let parent = goal.name;
+                    let next = waiting.decomposed(
+                        shop,
+                        ends,
+                        starts,
+                        number,
+                        method,
+                        parent,
+                        place,
+                    );
+                    waiting = next;
+                }
+            },
         }
     }
+    let problem = Problem {
+        atoms: atoms,
+        waiting: waiting,
+    };
     ended(problem, steps as u16, count, cost)
 }
 

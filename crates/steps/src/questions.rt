@@ -41,14 +41,7 @@ fn of_action<'a>(
     ensures { λ r. ⌜ r ≡ actionQuestion (now (shop .entry)) (now (order .entry)) (now (atoms .entry)) rows goal ⌝ }
 {
     if parts::needs_hold(atoms, shop, order, rows) {
-        if parts::helps(
-            shop,
-            order,
-            rows,
-            tag::MAKES_TRUE,
-            tag::MAKES_FALSE,
-            goal,
-        ) {
+        if parts::helps(shop, order, rows, tag::MAKES_TRUE, tag::MAKES_FALSE, goal) {
             return 0;
         }
         return 31;
@@ -88,14 +81,7 @@ fn of_method<'a>(
             from: nodes.last,
             to: end,
         };
-        if parts::helps(
-            shop,
-            order,
-            last,
-            tag::WANTED_TRUE,
-            tag::WANTED_FALSE,
-            goal,
-        ) {
+        if parts::helps(shop, order, last, tag::WANTED_TRUE, tag::WANTED_FALSE, goal) {
             if count + nodes.count <= Waiting::MOST {
                 return 0;
             }

@@ -42,7 +42,7 @@ decomposed-spec =
     let b = method-read (s .pre .0 .1) _ (s .pre .1 .0 .0) _ (c .before .before .before .before .before .word .ensures) in
     let n = c .before .nodes-between .ensures (b .bs) (b .walk) .number in (
       (λ order i.
-      let a = method-read i _ (s .pre .1 .0 .0) _ (c .before .before .before .before .before .word .ensures) in
-      list-decomposed a _ (s .pre .1 .0 .1) _ (full s) (omega (arith, s .pre .1 .1)) _ (s .pre .1 .0 .2) _ (s .pre .1 .0 .3) (c .entered .ensures .0 (a .bs) (a .walk))),
+          let a = method-read i _ (s .pre .1 .0 .0) _ (c .before .before .before .before .before .word .ensures) in
+          list-decomposed a _ (s .pre .1 .0 .1) _ (full s) (omega (arith, s .pre .1 .1)) _ (s .pre .1 .0 .2) _ (s .pre .1 .0 .3) (c .entered .ensures .0 (a .bs) (a .walk))),
       omega (arith, c .entered .ensures .1, n, method-size b, s .pre .1 .1),
     )))
