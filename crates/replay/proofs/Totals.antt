@@ -1,5 +1,5 @@
--- A run's steps as its trace has them, what an action costs by the words of its sheet, and how a run goes on and ends by what the
--- code's steps come to. Assumes nothing.
+-- A run's steps as its trace has them, what an action costs by the words of its sheet, and how a run goes on and ends by what its
+-- steps come to. Assumes nothing.
 use Prim.Native.Nat.{ℕ, suc, _+_, _-_, _<_, _≤_}
 use native.Mathlib.Omega.{arith}
 use native.Mathlib.Nat.{add-zero}
@@ -8,31 +8,25 @@ use mathlib.Core.Bool.{Bool, cond}
 use mathlib.Core.List.{List, [], _∷_, append-nil}
 use lib.ListN.{length, getD, take, drop, length-map}
 use lib.Seq.{drop-cons}
-use borrow.Author.Tests.{eq-eqb, ne-eqb}
+use borrow.Author.Tests.{ne-eqb}
 use Rattle.hgn.specs.Rows.{Row, row}
 use Rattle.hgn.specs.Meaning.{Domain, Action, firstValue, actionOf}
 use Rattle.hgn.specs.State.{State}
 use Rattle.hgn.specs.Network.{Waiting, mostWaiting}
 use Rattle.hgn.specs.Run as Run
-use Rattle.hgn.specs.Run.{Step, Move, actionAt, refused, taken, stepped, prepend, costOf}
-use Rattle.hgn.specs.Verdict.{passed}
-use Rattle.hgn.specs.Shop.{domain, rowCount, actionCount, shopRows, checkShop}
+use Rattle.hgn.specs.Run.{Step, actionAt, refused, taken, stepped, prepend, costOf}
+use Rattle.hgn.specs.Shop.{domain, rowCount, actionCount, shopRows}
 use Rattle.hgn.specs.Trace.{step, stepsOf, stepCount}
 use Rattle.hgn.specs.Replay.{refusal, acceptance, reported}
-use Rattle.hgn.proofs.Checked.{shop-counts}
-use Rattle.hgn.proofs.Moves.{Reads, as-release, as-action, as-method, as-unknown, reads}
 use Rattle.sheets.specs.Index.{starts, span}
 use Rattle.sheets.proofs.Lookup.{length-zipWith, getD-zipWith, length-part, getD-part, rows-at}
 use Rattle.sheets.proofs.Spans.{bounds, block-first, block-ends}
 use Rattle.sheets.proofs.Indexed.{shop-length, blocks-count, action-span}
 use Rattle.steps.specs.Entries.{listOf, entriesOf, waitingOf}
-use Rattle.steps.specs.Steps as Spec
-use Rattle.steps.specs.Steps.{Indexed, doneOf}
+use Rattle.steps.specs.Steps.{Indexed}
 use Rattle.replay.specs.Answers.{answerOf, runAnswer, endAnswer}
 use Rattle.steps.specs.declared.problem.Problem.{Problem}
-use Rattle.steps.specs.declared.problem.Stepped as Code
 use Rattle.steps.proofs.Tables.{shop-passes, start-at, indexable}
-use Rattle.replay.proofs.Plans.{actionsOf, taken-actions}
 use Rattle.replay.proofs.Running.{Running, running-next, running-stop, running-end}
 
 -- The steps of a trace that is long enough for them.
@@ -82,31 +76,6 @@ module _ (shop order endTable startTable : List ℕ) (t : Indexed shop order end
         ∙ first-of-span (shopRows shop) (getD (bounds (shopRows shop)) (k - 1) 0) (getD (bounds (shopRows shop)) (suc (k - 1)) 0) (w .0) (w .1)
         ∙ ap (λ (r : Row). r .value) (ap (λ (a : ℕ). getD (shopRows shop) a (row 0 0)) (sym start-is) ∙ rows-at 4 (rowCount shop) shop (indexable t .fits) (getD startTable (k - 1) 0) start-below)
 
--- An action that a move takes is one of the domain's.
-action-known : {d : Domain} {n k : ℕ} {m : Move} → Reads d n m → k ∷ [] ≡ actionsOf m → (1 ≤ k) × (k ≤ length (d .actions))
-action-known as-release e = let z : _≡_ {A = ℕ} 0 1 = omega (arith, ap length e) in absurd (omega arith)
-action-known {k = k} (as-action {k = j} h) e = let z : k ≡ suc j = cc in (omega arith, omega arith)
-action-known (as-method h) e = let z : _≡_ {A = ℕ} 0 1 = omega (arith, ap length e) in absurd (omega arith)
-action-known as-unknown e = let z : _≡_ {A = ℕ} 0 1 = omega (arith, ap length e) in absurd (omega arith)
-
--- What the code's step comes to.
-module _ {o : Run.Stepped} (shop order : List ℕ) (problem : Problem) (r : Code.Stepped) (is : Spec.Stepped o shop order problem r) where
-  step-taken : r .number ≡ 0 → o ≡ taken (doneOf (r .action)) (r .problem .atoms) (listOf shop order (r .problem .waiting))
-  step-taken z =
-      sym (is .comes-to)
-      ∙ ap (λ (b : Bool). cond b (taken (doneOf (r .action)) (r .problem .atoms) (listOf shop order (r .problem .waiting))) (refused (r .number))) (eq-eqb (r .number) 0 z)
-
-  step-refused : (r .number ≡ 0 → ⊥) → o ≡ refused (r .number)
-  step-refused z =
-      sym (is .comes-to)
-      ∙ ap (λ (b : Bool). cond b (taken (doneOf (r .action)) (r .problem .atoms) (listOf shop order (r .problem .waiting))) (refused (r .number))) (ne-eqb (r .number) 0 z)
-
-done-one : (k : ℕ) → 0 < k → doneOf k ≡ k ∷ []
-done-one k h = ap (λ (b : Bool). cond b [] (k ∷ [])) (ne-eqb k 0 (omega arith))
-
-done-none : (k : ℕ) → k ≤ 0 → doneOf k ≡ []
-done-none k h = ap (λ (b : Bool). cond b [] (k ∷ [])) (eq-eqb k 0 (omega arith))
-
 -- After the last step: is nothing waiting?
 ended-answer : (d : Domain) (steps : ℕ) (done : List ℕ) (s : State) (w : List Waiting)
     → answerOf (reported d steps [] (prepend done (Run.ended steps s w)) .answer) ≡ endAnswer steps s (length w) (length done) (costOf d done)
@@ -149,65 +118,19 @@ module _ (shop trace : List ℕ) (fits : 1 + (stepCount trace + stepCount trace)
       running-next (domain shop) (stepsOf trace) s₀ w₀ i s w count cost going next-inside (record { move = move; place = place }) next-is (k ∷ []) s′ w (count + 1) (cost + price) e
       (omega arith) (omega arith) (omega arith) (omega arith)
 
--- A run in progress, and the code's next step.
+-- A run in progress, and its end.
 module _ (shop order trace : List ℕ) (fits : 1 + (stepCount trace + stepCount trace) ≤ length trace) (s₀ : State) (w₀ : List Waiting)
     (i : ℕ) (problem : Problem) (count cost : ℕ) (going : Running (domain shop) (stepsOf trace) s₀ w₀ i (problem .atoms) (listOf shop order (problem .waiting)) count cost)
   where
-    module _ (h : i < stepCount trace) (move place : ℕ) (m : move ≡ getD trace (1 + i) 0) (p : place ≡ getD trace (1 + stepCount trace + i) 0) (r : Code.Stepped)
-        (is : Spec.Stepped (stepped mostWaiting (domain shop) i (problem .atoms) (listOf shop order (problem .waiting)) (record { move = move; place = place })) shop order problem r)
-      where
-        here : getD (stepsOf trace) i (record { move = 0; place = 0 }) ≡ record { move = move; place = place }
-        here = step-at trace fits i h ∙ ap₂ {C = Step} (λ a b. record { move = a; place = b }) (sym m) (sym p)
-
-        inside : i < length (stepsOf trace)
-        inside = omega (arith, steps-length trace fits)
-
-        -- Refused, the run ends.
-        pub run-refused : (r .number ≡ 0 → ⊥) → answerOf (refusal [] (r .number) i .answer) ≡ runAnswer shop trace s₀ w₀
-        unfolding reported
-        run-refused z =
-            sym (ap (λ (o : Run.Outcome). answerOf (reported (domain shop) (stepCount trace) [] o .answer))
-            (running-stop (domain shop) (stepsOf trace) s₀ w₀ i (problem .atoms) (listOf shop order (problem .waiting)) count cost going inside
-            (record { move = move; place = place }) here (r .number) (step-refused shop order problem r is z)))
-
-        module _ (z : r .number ≡ 0) where
-          -- Taken with no action.
-          pub run-no-action : r .action ≤ 0
-              → Running (domain shop) (stepsOf trace) s₀ w₀ (i + 1) (r .problem .atoms) (listOf shop order (r .problem .waiting)) count cost
-          unfolding costOf
-          run-no-action n =
-              running-next (domain shop) (stepsOf trace) s₀ w₀ i (problem .atoms) (listOf shop order (problem .waiting)) count cost going inside
-              (record { move = move; place = place }) here [] (r .problem .atoms) (listOf shop order (r .problem .waiting)) count cost
-              (step-taken shop order problem r is z ∙ ap (λ (l : List ℕ). taken l (r .problem .atoms) (listOf shop order (r .problem .waiting))) (done-none (r .action) n))
-              (omega arith) (omega arith) (omega arith) (omega arith)
-
-          -- Taken with an action.
-          module _ (n : 0 < r .action) where
-            takes : stepped mostWaiting (domain shop) i (problem .atoms) (listOf shop order (problem .waiting)) (record { move = move; place = place })
-                ≡ taken (r .action ∷ []) (r .problem .atoms) (listOf shop order (r .problem .waiting))
-            takes = step-taken shop order problem r is z ∙ ap (λ (l : List ℕ). taken l (r .problem .atoms) (listOf shop order (r .problem .waiting))) (done-one (r .action) n)
-
-            pub action-inside : checkShop shop ≡ passed → r .action ≤ actionCount shop
-            action-inside e =
-                let k = action-known (reads (domain shop) move) (taken-actions mostWaiting (domain shop) i (problem .atoms) (listOf shop order (problem .waiting)) (record { move = move; place = place }) (r .action ∷ []) (r .problem .atoms) (listOf shop order (r .problem .waiting)) takes) in
-                omega (arith, k .1, shop-counts shop e .0)
-
-            pub run-action : (price : ℕ) → price ≡ costOf (domain shop) (r .action ∷ []) → price ≤ 65535
-                → Running (domain shop) (stepsOf trace) s₀ w₀ (i + 1) (r .problem .atoms) (listOf shop order (r .problem .waiting)) (count + 1) (cost + price)
-            run-action price q small =
-                running-next (domain shop) (stepsOf trace) s₀ w₀ i (problem .atoms) (listOf shop order (problem .waiting)) count cost going inside
-                (record { move = move; place = place }) here (r .action ∷ []) (r .problem .atoms) (listOf shop order (r .problem .waiting)) (count + 1) (cost + price) takes
-                (omega arith) (omega arith) (omega arith) (omega arith)
-
-    -- After the last step.
-    pub run-ended : stepCount trace ≤ i
-        → endAnswer (stepCount trace) (problem .atoms) (length (entriesOf (problem .waiting))) count cost ≡ runAnswer shop trace s₀ w₀
-    run-ended past =
-        let l = steps-length trace fits in
-        let last : i ≡ stepCount trace = omega (arith, going .inside) in
-        ap₂ (endAnswer (stepCount trace) (problem .atoms) (length (entriesOf (problem .waiting)))) (going .counts) (going .costs)
-        ∙ ap (λ (n : ℕ). endAnswer (stepCount trace) (problem .atoms) n (length (going .done)) (costOf (domain shop) (going .done))) (sym (length-map (entriesOf (problem .waiting)) (waitingOf shop order)))
-        ∙ sym (ended-answer (domain shop) (stepCount trace) (going .done) (problem .atoms) (listOf shop order (problem .waiting)))
-        ∙ ap (λ (o : Run.Outcome). answerOf (reported (domain shop) (stepCount trace) [] o .answer))
-        (ap (λ (n : ℕ). prepend (going .done) (Run.ended n (problem .atoms) (listOf shop order (problem .waiting)))) (sym last)
-        ∙ sym (running-end (domain shop) (stepsOf trace) s₀ w₀ i (problem .atoms) (listOf shop order (problem .waiting)) count cost going (omega arith)))
+  -- After the last step.
+  pub run-ended : stepCount trace ≤ i
+      → endAnswer (stepCount trace) (problem .atoms) (length (entriesOf (problem .waiting))) count cost ≡ runAnswer shop trace s₀ w₀
+  run-ended past =
+      let l = steps-length trace fits in
+      let last : i ≡ stepCount trace = omega (arith, going .inside) in
+      ap₂ (endAnswer (stepCount trace) (problem .atoms) (length (entriesOf (problem .waiting)))) (going .counts) (going .costs)
+      ∙ ap (λ (n : ℕ). endAnswer (stepCount trace) (problem .atoms) n (length (going .done)) (costOf (domain shop) (going .done))) (sym (length-map (entriesOf (problem .waiting)) (waitingOf shop order)))
+      ∙ sym (ended-answer (domain shop) (stepCount trace) (going .done) (problem .atoms) (listOf shop order (problem .waiting)))
+      ∙ ap (λ (o : Run.Outcome). answerOf (reported (domain shop) (stepCount trace) [] o .answer))
+      (ap (λ (n : ℕ). prepend (going .done) (Run.ended n (problem .atoms) (listOf shop order (problem .waiting)))) (sym last)
+      ∙ sym (running-end (domain shop) (stepsOf trace) s₀ w₀ i (problem .atoms) (listOf shop order (problem .waiting)) count cost going (omega arith)))
