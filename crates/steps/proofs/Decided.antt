@@ -3,16 +3,16 @@ use Prim.Native.Nat.{ℕ, _+_, _-_, _<_, _≤_}
 use native.Mathlib.Omega.{arith}
 use mathlib.Core.Path.{_≡_, refl, sym, ap, ap₂, _∙_}
 use mathlib.Core.Bool.{Bool, true, false, cond}
-use mathlib.Core.List.{List, _++_}
+use mathlib.Core.List.{List}
 use mathlib.Core.Option.{some}
-use lib.Dec.{eqb, leb}
-use lib.ListN.{length, take, drop, getD, length-append, length-take, length-drop, length-map}
+use lib.Dec.{leb}
+use lib.ListN.{length, getD, length-append, length-take, length-drop, length-map}
 use borrow.Author.Tests.{ne-eqb, leb-true, le-leb, lt-leb}
 use Rattle.hgn.specs.Meaning as Meaning
 use Rattle.hgn.specs.Meaning.{Domain, Formula, Node, literals, nodeOf, goalOf, networkOf}
 use Rattle.hgn.specs.State.{State, allHold, formulaHolds, relevant}
 use Rattle.hgn.specs.Network as Network
-use Rattle.hgn.specs.Network.{mostWaiting, goalAt, free, anyFree, enter, decomposed}
+use Rattle.hgn.specs.Network.{mostWaiting, goalAt, free, anyFree, decomposed}
 use Rattle.hgn.specs.Run as Run
 use Rattle.hgn.specs.Run.{ask, refused, moveOf, actionAt, methodAt}
 use Rattle.hgn.specs.Shop.{domain, actionCount, methodCount}

@@ -12,7 +12,7 @@ use borrow.Author.Tests.{eqb-true}
 use Rattle.hgn.specs.Lists.{keep, upTo, parts}
 use Rattle.hgn.specs.Rows.{Row, row, has}
 use Rattle.hgn.specs.Tag as Tag
-use Rattle.hgn.specs.Meaning.{Method, opens, headed, literals, nodeOf, nodesOf, methodOf, lastAfterAll, networkOf, goalOf}
+use Rattle.hgn.specs.Meaning.{Method, opens, headed, literals, nodeOf, nodesOf, methodOf, networkOf, goalOf}
 use Rattle.hgn.specs.Run.{noMethod, methodAt}
 use Rattle.hgn.specs.Shop.{actionCount, methodCount, shopRows, domain}
 use Rattle.hgn.proofs.Checked.{length-lastAfterAll, shop-counts, kept, method-nodes}

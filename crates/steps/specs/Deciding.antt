@@ -14,7 +14,7 @@ use Rattle.hgn.specs.Run.{actionAt, methodAt, refused, taken, stepped}
 use Rattle.hgn.specs.Shop.{domain, actionCount, methodCount}
 use Rattle.sheets.specs.declared.index.Span.{Span}
 use Rattle.steps.specs.Entries.{spanRows, waitingOf}
-use Rattle.steps.specs.Moves.{Known, knownOf}
+use Rattle.steps.specs.Moves.{Known}
 use Rattle.steps.specs.declared.free.Seen.{Seen}
 use Rattle.steps.specs.declared.moves.Move.{Move}
 use Rattle.steps.specs.declared.moves.Move.the-variants.{Release, Act, Use}

@@ -3,7 +3,7 @@ use Prim.Native.Nat.{_≤_, _-_, _+_}
 use native.Mathlib.Omega.{arith}
 use mathlib.Core.Path.{_≡_, refl, _∙_}
 use mathlib.Core.List.{List}
-use lib.ListN.{length, take, length-set, length-map}
+use lib.ListN.{length, length-set, length-map}
 use lib.Seq.{take-set-lt, length-take-le}
 use borrow.Author.Needs.{needs}
 use Rattle.steps.specs.Entries.{entriesOf}
