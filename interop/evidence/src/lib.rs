@@ -1,0 +1,13 @@
+//! Evidence about the proved library: inputs, comparisons with the plain model,
+//! and what the benchmarks measure. The tests stand in `tests/`.
+
+#![forbid(unsafe_code)]
+
+pub mod compare;
+pub mod cores;
+pub mod damage;
+pub mod draft;
+pub mod generate;
+pub mod random;
+pub mod runner;
+pub mod walk;

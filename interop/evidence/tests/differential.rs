@@ -1,0 +1,446 @@
+//! The proved library against the plain model on generated inputs.
+//!
+//! `LIROPUVA_ROUNDS=10` runs ten times as many cases; `LIROPUVA_SEED=n` runs
+//! the one case with that seed.
+
+use evidence::compare::{self, Tally};
+use evidence::draft::{Order, Shop, Step, trace_words};
+use evidence::generate::{self, Size};
+use evidence::random::Random;
+use evidence::walk::{self, Habit};
+use evidence::{damage, runner};
+use plain::{MAX_GOALS, MAX_ROWS, MAX_STEPS, METHOD_0, Network, Run};
+
+/// The numbers a replay can end with; 27 never comes, as the goal at place 0 is
+/// always free.
+const REPLAY_NUMBERS: [usize; 29] = [
+    1, 2, 3, 4, 5, 6, 7, 8, 9, 11, 12, 13, 14, 15, 16, 17, 18, 21, 22, 23, 24, 25, 26, 28, 29, 30,
+    31, 32, 33,
+];
+const SEARCH_NUMBERS: [usize; 3] = [41, 42, 43];
+const LEAST_EACH: u64 = 100;
+
+/// A plain search that tries more steps than this is not compared.
+const STEPS_TRIED: u64 = 20_000;
+const DEEP_STEPS_TRIED: u64 = 100_000;
+
+/// A well-formed shop and order, as words and as the plain model reads them.
+struct Domain {
+    draft: (Shop, Order),
+    shop_words: Vec<u16>,
+    order_words: Vec<u16>,
+    shop: plain::Shop,
+    order: Network,
+}
+
+impl Domain {
+    fn new(shop: Shop, order: Order) -> Domain {
+        let shop_words = shop.words();
+        let order_words = order.words();
+        let read = plain::Shop::read(&shop_words).expect("a well-formed shop");
+        Domain {
+            order: Network::read(&read, &order_words).expect("a well-formed order"),
+            shop: read,
+            draft: (shop, order),
+            shop_words,
+            order_words,
+        }
+    }
+
+    fn generate(random: &mut Random, size: Size) -> Domain {
+        let shop = generate::shop(random, size);
+        let goals = generate::goal_count(random, size);
+        let order = generate::order(random, shop.atoms, goals);
+        Domain::new(shop, order)
+    }
+
+    /// One in which up to 64 goals wait and most traces end well.
+    fn easy(random: &mut Random) -> Domain {
+        let shop = generate::easy_shop(random);
+        let goals = random.between(0, MAX_GOALS);
+        let order = generate::easy_order(random, shop.atoms, goals);
+        Domain::new(shop, order)
+    }
+
+    fn run(&self) -> Run<'_> {
+        let start = self.order.start;
+        Run::start(&self.shop, &self.order, start, MAX_GOALS).expect("at most 64 goals")
+    }
+
+    fn finished_walk(&self, random: &mut Random, most: usize) -> Vec<Step> {
+        walk::finished_walk(random, &self.shop, &mut self.run(), most)
+    }
+
+    /// A walk, then a step that fails one of the questions, then more steps.
+    fn failing_walk(&self, random: &mut Random, most: usize) -> Vec<Step> {
+        let mut run = self.run();
+        let habit = Habit::random(random);
+        let most = random.between(0, most);
+        let mut steps = walk::walk(random, &self.shop, &mut run, habit, most);
+        let question = random.pick(&[25, 26, 28, 29, 30, 31, 32]);
+        if let Some(step) = walk::failing_step(random, &self.shop, &run, question) {
+            steps.push(step);
+            let more = walk::walk(random, &self.shop, &mut run, Habit::FINISH, 10);
+            steps.extend(more);
+        }
+        steps
+    }
+
+    fn some_steps(&self, random: &mut Random, most: usize) -> Vec<Step> {
+        let mut steps = match random.below(20) {
+            0..10 => self.finished_walk(random, most),
+            10..18 => self.failing_walk(random, most),
+            _ => walk::random_steps(random, &self.shop, 10),
+        };
+        if random.chance(15) {
+            damage::steps(random, &mut steps);
+        }
+        steps.truncate(usize::from(MAX_STEPS));
+        steps
+    }
+
+    fn replay(&self, random: &mut Random, tally: &mut Tally, trace: &[u16]) {
+        let room = plan_room(random, trace);
+        let (shop, order) = (&self.shop_words, &self.order_words);
+        compare::replay(tally, random, shop, order, trace, room);
+    }
+}
+
+/// Mostly enough room for the plan, sometimes more, sometimes too little.
+fn plan_room(random: &mut Random, trace: &[u16]) -> usize {
+    let steps = usize::from(*trace.first().unwrap_or(&0)).min(usize::from(MAX_STEPS));
+    match random.below(20) {
+        0 => steps.saturating_sub(1),
+        1 => random.between(0, steps),
+        2..6 => steps + random.below(9),
+        _ => steps,
+    }
+}
+
+/// Several traces on one domain.
+fn traces_case(random: &mut Random, tally: &mut Tally) {
+    let (domain, most) = match random.below(100) {
+        0..40 => (Domain::generate(random, Size::Tiny), 12),
+        40..75 => (Domain::generate(random, Size::Small), 40),
+        75..85 => (Domain::generate(random, Size::Bulky), 80),
+        85..93 => (Domain::easy(random), 150),
+        _ => (Domain::generate(random, Size::Medium), 150),
+    };
+    for _ in 0..16 {
+        let steps = domain.some_steps(random, most);
+        let trace = trace_words(&steps);
+        domain.replay(random, tally, &trace);
+    }
+    let trace = trace_words(&domain.some_steps(random, most));
+    compare::checks(tally, &domain.shop_words, &domain.order_words, &trace);
+}
+
+/// Damaged sheets and traces.
+fn damage_case(random: &mut Random, tally: &mut Tally) {
+    let size = random.pick(&[Size::Tiny, Size::Tiny, Size::Small, Size::Bulky]);
+    let domain = Domain::generate(random, size);
+    let accepted = trace_words(&domain.finished_walk(random, 20));
+    for _ in 0..12 {
+        let mut shop = domain.draft.0.sheet();
+        let mut order = domain.draft.1.sheet();
+        let mut trace = accepted.clone();
+        let (mut shop_words, mut order_words);
+        match random.below(5) {
+            0 => {
+                damage::rows(random, &mut shop);
+                (shop_words, order_words) = (shop.words(), order.words());
+            }
+            1 => {
+                damage::rows(random, &mut order);
+                (shop_words, order_words) = (shop.words(), order.words());
+            }
+            which => {
+                (shop_words, order_words) = (shop.words(), order.words());
+                let damaged = match which {
+                    2 => &mut shop_words,
+                    3 => &mut order_words,
+                    _ => &mut trace,
+                };
+                damage::words(random, damaged);
+            }
+        }
+        let room = plan_room(random, &trace);
+        compare::replay(tally, random, &shop_words, &order_words, &trace, room);
+        compare::checks(tally, &shop_words, &order_words, &trace);
+    }
+}
+
+/// Sheets and traces at the limits and just past them.
+fn limits_case(random: &mut Random, tally: &mut Tally) {
+    let (mut shop, mut order) = {
+        let shop = generate::shop(random, Size::Large);
+        let goals = generate::goal_count(random, Size::Large);
+        let order = generate::order(random, shop.atoms, goals);
+        (shop, order)
+    };
+    if random.chance(60) {
+        generate::pad_shop(random, &mut shop, usize::from(MAX_ROWS));
+    }
+    if random.chance(60) {
+        generate::pad_order(random, &mut order, usize::from(MAX_ROWS));
+    }
+    let domain = Domain::new(shop, order);
+    let most = random.pick(&[50, 300, 1000]);
+    for _ in 0..3 {
+        let trace = trace_words(&domain.some_steps(random, most));
+        domain.replay(random, tally, &trace);
+        compare::checks(tally, &domain.shop_words, &domain.order_words, &trace);
+    }
+    for _ in 0..2 {
+        let trace = trace_words(&domain.finished_walk(random, 50));
+        about_limits(random, tally, &domain, trace);
+    }
+}
+
+/// One size of the domain at its limit or a little past it, with the rows to go
+/// with it.
+fn about_limits(random: &mut Random, tally: &mut Tally, domain: &Domain, mut trace: Vec<u16>) {
+    let (mut shop, mut order) = domain.draft.clone();
+    let past = random.below(3);
+    match random.below(8) {
+        0 => {
+            shop.atoms = 256 + past as u16;
+            order.atoms = shop.atoms;
+        }
+        1 => {
+            let action = shop.actions[0].clone();
+            shop.actions.resize(254 + past, action);
+            shop.methods.clear();
+        }
+        2 => {
+            let mut method = shop.methods[0].clone();
+            method.nodes.drain(..method.nodes.len() - 1);
+            shop.actions.truncate(255);
+            shop.methods = vec![method; 254 + past];
+        }
+        3 => {
+            shop.methods.truncate(10);
+            let method = random.below(shop.methods.len());
+            let nodes = &mut shop.methods[method].nodes;
+            let last = nodes.pop().expect("a node");
+            *nodes = vec![last; 62 + past];
+        }
+        4 => {
+            let goal = order.goals[0].clone();
+            order.goals.truncate(10);
+            order.goals.resize(63 + past, goal);
+        }
+        5 => generate::pad_shop(random, &mut shop, usize::from(MAX_ROWS) + past),
+        6 => generate::pad_order(random, &mut order, usize::from(MAX_ROWS) + past),
+        _ => trace = trace_words(&vec![(0, 0); usize::from(MAX_STEPS) + past]),
+    }
+    let (shop, order) = (shop.words(), order.words());
+    let room = plan_room(random, &trace);
+    compare::replay(tally, random, &shop, &order, &trace, room);
+    compare::checks(tally, &shop, &order, &trace);
+}
+
+/// Traces of as many steps as there may be, often accepted.
+fn long_case(random: &mut Random, tally: &mut Tally) {
+    let size = random.pick(&[Size::Small, Size::Bulky, Size::Medium, Size::Large]);
+    let domain = if random.chance(30) {
+        Domain::easy(random)
+    } else {
+        Domain::generate(random, size)
+    };
+    let mut run = domain.run();
+    let habit = Habit {
+        release: random.pick(&[0, 5, 30]),
+        method: random.pick(&[0, 20, 50]),
+    };
+    let most = usize::from(MAX_STEPS);
+    let mut steps = walk::walk(random, &domain.shop, &mut run, habit, most - 200);
+    let left = most - steps.len();
+    let end = walk::walk(random, &domain.shop, &mut run, Habit::FINISH, left);
+    steps.extend(end);
+    fill_steps(&mut steps, &domain.shop, most);
+    domain.replay(random, tally, &trace_words(&steps));
+    damage::steps(random, &mut steps);
+    steps.truncate(most);
+    domain.replay(random, tally, &trace_words(&steps));
+}
+
+/// Repeats an action without needs, if one was taken, until there are `most`
+/// steps: what was accepted still is.
+fn fill_steps(steps: &mut Vec<Step>, shop: &plain::Shop, most: usize) {
+    let repeats = |&(_, word): &Step| {
+        let action = usize::from(word).checked_sub(1);
+        let action = action.and_then(|index| shop.actions.get(index));
+        action.is_some_and(|action| action.needs == plain::Literals::EMPTY)
+    };
+    if let Some(number) = steps.iter().position(repeats) {
+        let step = steps[number];
+        let missing = most.saturating_sub(steps.len());
+        steps.splice(number..number, std::iter::repeat_n(step, missing));
+    }
+}
+
+/// Searches on small domains, some of them damaged.
+fn search_case(random: &mut Random, tally: &mut Tally) {
+    let size = random.pick(&[Size::Tiny, Size::Tiny, Size::Small]);
+    let domain = Domain::generate(random, size);
+    let (mut shop, mut order) = (domain.shop_words, domain.order_words);
+    if random.chance(10) {
+        damage::words(random, &mut shop);
+    }
+    if random.chance(10) {
+        damage::words(random, &mut order);
+    }
+    for _ in 0..2 {
+        let (depth, room) = search_room(random);
+        let sheets = (&shop[..], &order[..]);
+        compare::search(tally, random, sheets, depth, room, STEPS_TRIED);
+    }
+}
+
+/// Searches that must go deep. From the greatest depth that ends quickly, so
+/// that most find a trace if there is one.
+fn deep_search_case(random: &mut Random, tally: &mut Tally) {
+    let domain = if random.chance(25) {
+        Domain::generate(random, Size::Puzzle)
+    } else {
+        let (shop, order) = generate::subgoals(random);
+        Domain::new(shop, order)
+    };
+    let sheets = (&domain.shop_words[..], &domain.order_words[..]);
+    for depth in [20, 14, 10, 7] {
+        let room = 1 + 2 * usize::from(depth);
+        let answer = compare::search(tally, random, sheets, depth, room, DEEP_STEPS_TRIED);
+        if let Some(answer) = answer {
+            // One step fewer than the shortest: none.
+            if answer.number == 0 && answer.place > 0 {
+                let depth = answer.place as u16 - 1;
+                compare::search(tally, random, sheets, depth, room, DEEP_STEPS_TRIED);
+            }
+            return;
+        }
+    }
+}
+
+/// Both searches against the plainest one: all traces, in order.
+fn naive_search_case(random: &mut Random, tally: &mut Tally) {
+    let domain = Domain::generate(random, Size::Tiny);
+    let depth = random.between(0, 5);
+    let expected = (0..=depth).find_map(|steps| first_trace(&domain.shop, &domain.run(), steps));
+    let mut room = vec![0; 1 + 2 * depth];
+    let (shop, order) = (&domain.shop_words, &domain.order_words);
+    let found = plain::search(shop, order, depth as u16, &mut room);
+    match expected {
+        Some(steps) => {
+            assert_eq!(found, Ok(steps.len()));
+            assert_eq!(room[..1 + 2 * steps.len()], trace_words(&steps));
+        }
+        None => assert_eq!(found.map_err(|refusal| refusal.number), Err(43)),
+    }
+    compare::search(
+        tally,
+        random,
+        (shop, order),
+        depth as u16,
+        room.len(),
+        STEPS_TRIED,
+    );
+}
+
+/// The first accepted way on with exactly `left` steps, without any pruning.
+fn first_trace(shop: &plain::Shop, run: &Run<'_>, left: usize) -> Option<Vec<Step>> {
+    if left == 0 {
+        return run.waiting().is_empty().then(Vec::new);
+    }
+    let actions = 1..=shop.actions.len() as u16;
+    let methods = (METHOD_0..).take(shop.methods.len());
+    let words: Vec<u16> = [0].into_iter().chain(actions).chain(methods).collect();
+    for place in 0..run.waiting().len() as u16 {
+        for &word in &words {
+            let mut next = run.clone();
+            if next.step(place, word).is_err() {
+                continue;
+            }
+            if let Some(mut steps) = first_trace(shop, &next, left - 1) {
+                steps.insert(0, (place, word));
+                return Some(steps);
+            }
+        }
+    }
+    None
+}
+
+/// A depth, and mostly room for it.
+fn search_room(random: &mut Random) -> (u16, usize) {
+    let depth = match random.below(20) {
+        0 => random.between(33, 40) as u16,
+        1 => random.word(),
+        2 => random.between(9, 32) as u16,
+        _ => random.between(0, 8) as u16,
+    };
+    let enough = 1 + 2 * usize::from(depth.min(40));
+    let room = match random.below(20) {
+        0 | 1 => random.below(enough),
+        2 => enough - 1,
+        3..8 => enough + random.below(9),
+        _ => enough,
+    };
+    (depth, room)
+}
+
+/// Searches on sheets near the limits, of few steps.
+fn large_search_case(random: &mut Random, tally: &mut Tally) {
+    let shop = generate::shop(random, Size::Large);
+    let goals = random.pick(&[0, 1, 1, 2, 40]);
+    let order = generate::order(random, shop.atoms, goals);
+    let (shop, order) = (shop.words(), order.words());
+    let depth = random.between(0, 4) as u16;
+    let room = 1 + 2 * usize::from(depth);
+    compare::search(tally, random, (&shop, &order), depth, room, STEPS_TRIED);
+}
+
+/// A name, the number of cases a round, and the case.
+type Group = (&'static str, u64, fn(&mut Random, &mut Tally));
+
+#[test]
+fn both_sides_agree() {
+    let mut tally = Tally::default();
+    let groups: [Group; 8] = [
+        ("traces", 14_000, traces_case),
+        ("damage", 4_000, damage_case),
+        ("limits", 600, limits_case),
+        ("long traces", 300, long_case),
+        ("searches", 6_000, search_case),
+        ("large searches", 100, large_search_case),
+        ("deep searches", 10_000, deep_search_case),
+        ("naive searches", 2_000, naive_search_case),
+    ];
+    for (number, (name, cases, case)) in (1..).zip(groups) {
+        let start = std::time::Instant::now();
+        let first_seed = number * runner::SEEDS_A_GROUP;
+        tally.add(&runner::run_cases(name, first_seed, cases, case));
+        println!("{name}: {cases} cases a round, {:.1?}", start.elapsed());
+    }
+    tally.print();
+    if runner::single_seed() {
+        return;
+    }
+    for number in REPLAY_NUMBERS {
+        let count = tally.replays[number];
+        assert!(
+            count >= LEAST_EACH,
+            "{number} came from {count} replays only"
+        );
+    }
+    for number in SEARCH_NUMBERS {
+        let count = tally.searches[number];
+        assert!(
+            count >= LEAST_EACH,
+            "{number} came from {count} searches only"
+        );
+    }
+    assert!(tally.replays[0] >= 20_000 && tally.searches[0] >= 500);
+    assert!(tally.full_traces >= 50);
+    assert!(tally.replays.iter().sum::<u64>() >= 200_000);
+    assert!(tally.searches.iter().sum::<u64>() >= 2_000);
+}

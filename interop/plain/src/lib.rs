@@ -1,0 +1,113 @@
+//! A plain and fast model of document 01, written from the paper alone.
+//!
+//! It shares no code with the proved library, so that the two can be compared
+//! on any input, and it is the baseline of the benchmarks.
+//!
+//! The five public calls take the sheets as words, as the library does. Below
+//! them [`Shop`], [`Network`], [`Trace`] and [`Run`] are open for tests that
+//! walk step by step or join two orders.
+
+#![forbid(unsafe_code)]
+#![warn(missing_docs)]
+
+mod literals;
+mod network;
+mod run;
+mod search;
+mod sheet;
+
+pub use literals::{Atoms, AtomsIter, Literals};
+pub use network::{Action, Method, Network, Node, Nodes, Shop};
+pub use run::{Accepted, METHOD_0, Run, Unaccepted, WaitingList, run};
+pub use search::{Budget, MAX_DEPTH, Stopped};
+pub use sheet::{
+    MAX_ACTIONS, MAX_ATOMS, MAX_GOALS, MAX_METHOD_NODES, MAX_METHODS, MAX_ROWS, MAX_STEPS, Refusal,
+    Trace, tag,
+};
+
+use sheet::{OrderSheet, ShopSheet};
+
+/// Questions 1 to 9.
+pub fn check_shop(shop: &[u16]) -> Result<(), Refusal> {
+    ShopSheet::check(shop)?;
+    Ok(())
+}
+
+/// Questions 1 to 9 and 11 to 18.
+pub fn check_order(shop: &[u16], order: &[u16]) -> Result<(), Refusal> {
+    let shop = ShopSheet::check(shop)?;
+    OrderSheet::check(shop.atoms, order)?;
+    Ok(())
+}
+
+/// Questions 1 to 9, 11 to 18 and 21 to 23.
+pub fn check_trace(shop: &[u16], order: &[u16], trace: &[u16]) -> Result<(), Refusal> {
+    check_order(shop, order)?;
+    Trace::check(trace)?;
+    Ok(())
+}
+
+/// All questions up to 33. The plan is written only when the trace is accepted.
+pub fn replay(
+    shop: &[u16],
+    order: &[u16],
+    trace: &[u16],
+    plan: &mut [u16],
+) -> Result<Accepted, Refusal> {
+    let shop = ShopSheet::check(shop)?;
+    let order = OrderSheet::check(shop.atoms, order)?;
+    let trace = Trace::check(trace)?;
+    if plan.len() < trace.len() {
+        return Err(Refusal::new(24, 0));
+    }
+    let shop = Shop::build(&shop);
+    let order = Network::build(&order);
+    match run(&shop, &order, order.start, trace, MAX_GOALS) {
+        Ok(accepted) => {
+            for (word, action) in plan.iter_mut().zip(trace.plan()) {
+                *word = action;
+            }
+            Ok(accepted)
+        }
+        Err(Unaccepted::Refused(refusal)) => Err(refusal),
+        Err(Unaccepted::TooManyAtStart) => unreachable!("question 12 keeps an order to 64 goals"),
+    }
+}
+
+/// Questions 1 to 9, 11 to 18 and 41 to 43. Gives the number of steps found;
+/// the trace is written only then.
+pub fn search(shop: &[u16], order: &[u16], depth: u16, room: &mut [u16]) -> Result<usize, Refusal> {
+    match search_within(shop, order, depth, room, Budget::unlimited()) {
+        Ok(steps) => Ok(steps),
+        Err(Stopped::Refused(refusal)) => Err(refusal),
+        Err(Stopped::BudgetSpent) => unreachable!("an unlimited budget is never spent"),
+    }
+}
+
+/// [`search`], but given up when the budget is spent.
+pub fn search_within(
+    shop: &[u16],
+    order: &[u16],
+    depth: u16,
+    room: &mut [u16],
+    budget: Budget,
+) -> Result<usize, Stopped> {
+    let shop = ShopSheet::check(shop)?;
+    let order = OrderSheet::check(shop.atoms, order)?;
+    if depth > MAX_DEPTH {
+        return Err(Refusal::new(41, 0).into());
+    }
+    if room.len() < 1 + 2 * usize::from(depth) {
+        return Err(Refusal::new(42, 0).into());
+    }
+    let shop = Shop::build(&shop);
+    let order = Network::build(&order);
+    let steps = search::shortest(&shop, &order, usize::from(depth), budget)?;
+    room[0] = steps.len() as u16;
+    let (moves, places) = room[1..1 + 2 * steps.len()].split_at_mut(steps.len());
+    for (i, step) in steps.iter().enumerate() {
+        moves[i] = step.word;
+        places[i] = step.place;
+    }
+    Ok(steps.len())
+}
