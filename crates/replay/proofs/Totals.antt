@@ -122,15 +122,15 @@ module _ (shop trace : List ℕ) (fits : 1 + (stepCount trace + stepCount trace)
 module _ (shop order trace : List ℕ) (fits : 1 + (stepCount trace + stepCount trace) ≤ length trace) (s₀ : State) (w₀ : List Waiting)
     (i : ℕ) (problem : Problem) (count cost : ℕ) (going : Running (domain shop) (stepsOf trace) s₀ w₀ i (problem .atoms) (listOf shop order (problem .waiting)) count cost)
   where
-  -- After the last step.
-  pub run-ended : stepCount trace ≤ i
-      → endAnswer (stepCount trace) (problem .atoms) (length (entriesOf (problem .waiting))) count cost ≡ runAnswer shop trace s₀ w₀
-  run-ended past =
-      let l = steps-length trace fits in
-      let last : i ≡ stepCount trace = omega (arith, going .inside) in
-      ap₂ (endAnswer (stepCount trace) (problem .atoms) (length (entriesOf (problem .waiting)))) (going .counts) (going .costs)
-      ∙ ap (λ (n : ℕ). endAnswer (stepCount trace) (problem .atoms) n (length (going .done)) (costOf (domain shop) (going .done))) (sym (length-map (entriesOf (problem .waiting)) (waitingOf shop order)))
-      ∙ sym (ended-answer (domain shop) (stepCount trace) (going .done) (problem .atoms) (listOf shop order (problem .waiting)))
-      ∙ ap (λ (o : Run.Outcome). answerOf (reported (domain shop) (stepCount trace) [] o .answer))
-      (ap (λ (n : ℕ). prepend (going .done) (Run.ended n (problem .atoms) (listOf shop order (problem .waiting)))) (sym last)
-      ∙ sym (running-end (domain shop) (stepsOf trace) s₀ w₀ i (problem .atoms) (listOf shop order (problem .waiting)) count cost going (omega arith)))
+    -- After the last step.
+    pub run-ended : stepCount trace ≤ i
+        → endAnswer (stepCount trace) (problem .atoms) (length (entriesOf (problem .waiting))) count cost ≡ runAnswer shop trace s₀ w₀
+    run-ended past =
+        let l = steps-length trace fits in
+        let last : i ≡ stepCount trace = omega (arith, going .inside) in
+        ap₂ (endAnswer (stepCount trace) (problem .atoms) (length (entriesOf (problem .waiting)))) (going .counts) (going .costs)
+        ∙ ap (λ (n : ℕ). endAnswer (stepCount trace) (problem .atoms) n (length (going .done)) (costOf (domain shop) (going .done))) (sym (length-map (entriesOf (problem .waiting)) (waitingOf shop order)))
+        ∙ sym (ended-answer (domain shop) (stepCount trace) (going .done) (problem .atoms) (listOf shop order (problem .waiting)))
+        ∙ ap (λ (o : Run.Outcome). answerOf (reported (domain shop) (stepCount trace) [] o .answer))
+        (ap (λ (n : ℕ). prepend (going .done) (Run.ended n (problem .atoms) (listOf shop order (problem .waiting)))) (sym last)
+        ∙ sym (running-end (domain shop) (stepsOf trace) s₀ w₀ i (problem .atoms) (listOf shop order (problem .waiting)) count cost going (omega arith)))
