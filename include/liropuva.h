@@ -1,9 +1,11 @@
 /*
  * The five public calls of Liropuva for C: the checks of the three sheets, the replay of a trace, and the bounded search.
  *
- * Document 01 says what a shop sheet, an order sheet and a trace are ("The three sheets") and what is asked of them
- * ("Questions"). Each call answers what the definitions of crates/hgn/specs say, for every input, refusals too: this is
- * proved of crates/capi/src/lib.rt, where the contracts stand. Any words and any lengths may be passed.
+ * A shop sheet is F K M N, then N tags, then N values; an order sheet F G N, then N tags, then N values; a trace L, then L
+ * moves, then L places: all tags before all values, all moves before all places. docs/REFUSALS.md has the tags, ranges and
+ * limits, and each number that a call can answer. Each call answers what the definitions of crates/hgn/specs say, for every
+ * input, refusals too: this is proved of crates/capi/src/lib.rt, where the contracts stand. Any words and any lengths may be
+ * passed.
  *
  * What a caller owes, and nothing checks:
  * - A pointer is not null and is aligned for its type, also where its length is 0. Lengths count words, not bytes.
@@ -11,6 +13,8 @@
  * - What is written (plan, room, answer, atoms) overlaps nothing else that is passed. The sheets are only read, and may
  *   overlap each other.
  * - Until the call returns, nothing else writes what is passed, and nothing else reads what is written.
+ * - A depth is 16 bits wide. C cuts a larger number to 16 bits before the call sees it, so 65536 would search as 0: test it
+ *   first.
  *
  * All memory stays the caller's: a call keeps no pointer, allocates nothing and frees nothing. What stands in `answer` and
  * `atoms` before the call does not matter; both are written whole by every call, refused or not.
@@ -39,13 +43,19 @@ extern "C" {
 /* Words of plan that are enough for every trace. */
 #define HGN_MOST_PLAN_WORDS 4096
 
+/* The words of the largest sheets: 4 + 2 * 4000, 3 + 2 * 4000, 1 + 2 * 4096. */
+#define HGN_MOST_SHOP_WORDS 8004
+#define HGN_MOST_ORDER_WORDS 8003
+#define HGN_MOST_TRACE_WORDS 8193
+
 /* The deepest search, and the words of room that it asks for: 1 + 2 * depth. */
 #define HGN_MOST_DEPTH 32
-#define HGN_MOST_TRACE_WORDS (1 + 2 * HGN_MOST_DEPTH)
+#define HGN_MOST_SEARCH_WORDS (1 + 2 * HGN_MOST_DEPTH)
 
 /*
- * The checks. answer[0] is the number of the first question whose answer is no, answer[1] its place, 0 where document 01
- * names none; 0 and 0 when passed. Each asks about all its sheets, in the order in which they are passed.
+ * The checks. answer[0] is the number of the first question whose answer is no, answer[1] its place: the row for 4 to 6 and
+ * 14 to 16, the method for 9, else 0. 0 and 0 when passed. Each asks about all its sheets, in the order in which they are
+ * passed.
  */
 void hgn_check_shop(const uint16_t *shop, size_t shop_words,
                     uint32_t answer[2]);
@@ -63,7 +73,8 @@ void hgn_check_trace(const uint16_t *shop, size_t shop_words,
  * The replay of a trace of L steps. answer is number, place, plan count, cost.
  * Accepted: 0, L, the plan's length and cost. The plan, its action numbers in order, stands in the first words of `plan`,
  * later words are unchanged; atoms[a] is 1 where atom a is in the last state, else 0.
- * Refused: number and place as of a check, then 0 and 0; every byte of `atoms` is 0, and `plan` is unchanged.
+ * Refused: number and place, then 0 and 0; every byte of `atoms` is 0, and `plan` is unchanged. The place is the step for 25
+ * to 32 and L for 33.
  * A `plan` of fewer than L words is refused with 24, even where the plan is shorter.
  */
 void hgn_replay(const uint16_t *shop, size_t shop_words,
@@ -76,8 +87,8 @@ void hgn_replay(const uint16_t *shop, size_t shop_words,
  * The search for a trace of at most `depth` steps that the replay accepts: fewest steps first; among equally long ones the
  * first differing step decides, lower place, then lower move.
  * Found: answer is 0 and L, and the trace stands in the first 1 + 2L words of `room`, later words unchanged.
- * Refused: number and place as of a check, and `room` is unchanged; 41: depth above 32; 42: `room` of fewer than
- * 1 + 2 * depth words; 43: there is no such trace.
+ * Refused: number and place, and `room` is unchanged; 41 at 0: depth above 32; 42 at 0: `room` of fewer than 1 + 2 * depth
+ * words; 43 at 0: there is no such trace.
  * The time can grow exponentially with the depth.
  */
 void hgn_search(const uint16_t *shop, size_t shop_words,

@@ -21,7 +21,7 @@ pub replay-left : (shop order trace room : List ℕ) {r : Answer} {exit atoms : 
 replay-left shop order trace room called bytes = record {
   leaves = called .leaves;
   answers = ap (λ (r : Answer). r .number ∷ r .place ∷ r .count ∷ r .cost ∷ []) (called .answers);
-  ends = bytes ∙ ap (λ (r : Answer). stateBytes (r .state .atoms)) (called .answers);
+  state = bytes ∙ ap (λ (r : Answer). stateBytes (r .state .atoms)) (called .answers);
 }
 
 pub search-left : (shop order : List ℕ) (depth : ℕ) (room : List ℕ) {r : Verdict} {exit : List ℕ} → Searching.Called shop order depth room r exit

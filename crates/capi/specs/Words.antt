@@ -29,7 +29,7 @@ stateBytes s = map atomByte s
 pub record ReplayLeft (r : Replayed) (plan answer atoms : List ℕ) : Type 0 where
   pub leaves : plan ≡ r .room
   pub answers : answer ≡ answerWords (r .answer)
-  pub ends : atoms ≡ stateBytes (r .answer .state)
+  pub state : atoms ≡ stateBytes (r .answer .state)
 
 -- What the search's call leaves in the room for the trace and in the answer, number and place.
 pub record SearchLeft (r : Searched) (room answer : List ℕ) : Type 0 where

@@ -28,7 +28,8 @@ listFrom w (taken done s′ w′) = w′
 abbrev pub steppedAt : List ℕ → List ℕ → ℕ → Step → Problem → Stepped
 steppedAt shop order n x b = stepped mostWaiting (domain shop) n (b .atoms) (listOf shop order (b .waiting)) x
 
--- The answer and the record after are what the step's definition gives at the record before; refused, the record is as it was.
+-- The answer, the atoms and the goals that wait, by place, are what the step's definition gives at the record before; refused, the
+-- whole record is as it was. What the array holds past its count is free.
 pub record Forward (shop order : List ℕ) (n : ℕ) (x : Step) (before : Problem) (answer : ℕ) (after : Problem) : Type 0 where
   pub number : answer ≡ numberOf (steppedAt shop order n x before)
   pub state : after .atoms ≡ stateFrom (before .atoms) (steppedAt shop order n x before)

@@ -111,7 +111,12 @@ pub struct Accepted {
 }
 
 impl Accepted {
-    /// The plan within the room that was lent to [`replay`].
+    /// The plan within the room that was lent to [`replay`]. Of another room it
+    /// gives other words.
+    ///
+    /// # Panics
+    ///
+    /// Where the slice is shorter than the plan.
     pub fn plan<'a>(&self, room: &'a [u16]) -> &'a [u16] {
         &room[..self.plan_count]
     }
@@ -125,7 +130,12 @@ pub struct Found {
 }
 
 impl Found {
-    /// The trace within the room that was lent to [`search`].
+    /// The trace within the room that was lent to [`search`]. Of another room it
+    /// gives other words.
+    ///
+    /// # Panics
+    ///
+    /// Where the slice is shorter than the trace.
     pub fn trace<'a>(&self, room: &'a [u16]) -> &'a [u16] {
         &room[..1 + 2 * self.steps]
     }
@@ -149,9 +159,9 @@ pub fn check_trace(shop: &[u16], order: &[u16], trace: &[u16]) -> Result<(), Ref
 
 /// Replays a trace: all questions from 1 to 33.
 ///
-/// `plan` must have a word for each step of the trace. The plan's action
-/// numbers go into its first words; the others are left alone, and so is all
-/// of it when the trace is refused.
+/// A `plan` with fewer words than the trace has steps is refused with 24. The
+/// plan's action numbers go into its first words; the others are left alone,
+/// and so is all of it when the call is refused.
 pub fn replay(
     shop: &[u16],
     order: &[u16],
@@ -176,9 +186,9 @@ pub fn replay(
 /// Finds the first of the shortest accepted traces of at most `depth` steps:
 /// questions 1 to 9, 11 to 18 and 41 to 43.
 ///
-/// `depth` is at most 32 and `room` has at least `1 + 2 * depth` words. The
-/// trace goes into its first words; the others are left alone, and so is all
-/// of it when there is none.
+/// A `depth` above 32 is refused with 41, a `room` of fewer than `1 + 2 * depth`
+/// words with 42. The trace goes into the first words of `room`; the others are
+/// left alone, and so is all of it when the call is refused.
 pub fn search(shop: &[u16], order: &[u16], depth: u16, room: &mut [u16]) -> Result<Found, Refusal> {
     let steps = search_answer(shop, order, depth, room).passed()?;
     Ok(Found {

@@ -8,8 +8,8 @@ use std::fmt;
 pub struct Refusal {
     /// The number of the question.
     pub number: u32,
-    /// The row, method or step where it was asked, from 0; 0 for a question
-    /// about a whole sheet or room.
+    /// The row, method or step where it was asked, from 0; the number of steps
+    /// for 33; 0 for a question about a whole sheet or room.
     pub place: u32,
 }
 
@@ -19,6 +19,7 @@ enum Place {
     Row,
     Method,
     Step,
+    End,
 }
 
 impl Refusal {
@@ -66,7 +67,8 @@ impl Refusal {
         match self.number {
             4..=6 | 14..=16 => Place::Row,
             9 => Place::Method,
-            25..=33 => Place::Step,
+            25..=32 => Place::Step,
+            33 => Place::End,
             _ => Place::None,
         }
     }
@@ -80,6 +82,7 @@ impl fmt::Display for Refusal {
             Place::Row => write!(f, " at row {}", self.place)?,
             Place::Method => write!(f, " at method {}", self.place)?,
             Place::Step => write!(f, " at step {}", self.place)?,
+            Place::End => write!(f, " after {} steps", self.place)?,
         }
         write!(f, ": the answer is no to \"{}\"", self.question())
     }
