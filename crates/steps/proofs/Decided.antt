@@ -123,20 +123,20 @@ module _ (d : Domain) (s : State) (f : Formula) (count : ℕ) where
   never-28 (Act k) e = not-28-two (allHold s (actionAt d k .needs)) (relevant (actionAt d k .effects) f) e
   never-28 (Use m) e = not-28-three (allHold s (methodAt d m .needs)) (relevant (goalOf (methodAt d m)) f) (leb (count + length (networkOf (methodAt d m))) 64) e
 
-  leaves-room : (m : Move) → questionOf d s f count (knownOf m) ≡ 0 → Room d count m
+  pub leaves-room : (m : Move) → questionOf d s f count (knownOf m) ≡ 0 → Room d count m
   unfolding questionOf
   leaves-room Release e = tt
   leaves-room (Act k) e = tt
   leaves-room (Use m) e = room-for (allHold s (methodAt d m .needs)) (relevant (goalOf (methodAt d m)) f) (leb (count + length (networkOf (methodAt d m))) 64) _ refl e
 
 module _ (d : Domain) (n : ℕ) (s : State) (w : List Network.Waiting) (p : ℕ) (inside : p < length w) where
-  takes-it : (m : Move) → questionOf d s (goalAt w p .formula) (length w) (knownOf m) ≡ 0 → ifFree d n s w p (knownOf m) ≡ carried d n s w p m
+  pub takes-it : (m : Move) → questionOf d s (goalAt w p .formula) (length w) (knownOf m) ≡ 0 → ifFree d n s w p (knownOf m) ≡ carried d n s w p m
   unfolding questionOf ifFree
   takes-it Release e = one-yes _ (formulaHolds s (goalAt w p .formula)) e
   takes-it (Act k) e = two-yes _ (allHold s (actionAt d k .needs)) (relevant (actionAt d k .effects) (goalAt w p .formula)) e
   takes-it (Use m) e = rw (decomposed-length w p n (networkOf (methodAt d m)) inside) (three-yes _ (allHold s (methodAt d m .needs)) (relevant (goalOf (methodAt d m)) (goalAt w p .formula)) (leb (length w + length (networkOf (methodAt d m))) 64) e)
 
-  refuses-it : (m : Move) (q : ℕ) → questionOf d s (goalAt w p .formula) (length w) (knownOf m) ≡ q → (q ≡ 0 → ⊥) → ifFree d n s w p (knownOf m) ≡ refused q
+  pub refuses-it : (m : Move) (q : ℕ) → questionOf d s (goalAt w p .formula) (length w) (knownOf m) ≡ q → (q ≡ 0 → ⊥) → ifFree d n s w p (knownOf m) ≡ refused q
   unfolding questionOf ifFree
   refuses-it Release q e z = one-no _ (formulaHolds s (goalAt w p .formula)) q e z
   refuses-it (Act k) q e z = two-no _ (allHold s (actionAt d k .needs)) (relevant (actionAt d k .effects) (goalAt w p .formula)) q e z

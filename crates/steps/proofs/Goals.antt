@@ -46,9 +46,6 @@ module _ (shop order : List ℕ) where
       ∙ map-append (waitingOf shop order) (take p l) (drop (suc p) l)
       ∙ ap₂ {C = List Network.Waiting} (λ a b. a ++ b) (sym (take-map (waitingOf shop order) p l)) (sym (drop-map (waitingOf shop order) (suc p) l))
 
-  -- A step that is taken with an action, or with none.
-  pub taken-none : (r : Code.Stepped) → r .number ≡ 0 → r .action ≡ 0 → Spec.steppedOf shop order r ≡ Run.taken [] (r .problem .atoms) (listOf shop order (r .problem .waiting))
-  taken-none r z a = rw (eq-eqb (r .number) 0 z, eq-eqb (r .action) 0 a)
-
+  -- A step that is taken with an action.
   pub taken-action : (r : Code.Stepped) → r .number ≡ 0 → r .action ≢ 0 → Spec.steppedOf shop order r ≡ Run.taken (r .action ∷ []) (r .problem .atoms) (listOf shop order (r .problem .waiting))
   taken-action r z a = rw (eq-eqb (r .number) 0 z, ne-eqb (r .action) 0 a)

@@ -12,9 +12,8 @@ pub mod Entered
 pub mod Filling
 pub mod Tables
 pub mod NodeParts
-pub mod Taken
 pub mod Uses
-pub mod Used
 pub mod Actions
 pub mod Decided
 pub mod Decomposing
+pub mod Taken

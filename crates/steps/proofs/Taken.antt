@@ -1,81 +1,114 @@
--- What a release and an action of the code come to. Assumes nothing.
+-- What the code's record comes to, from what was decided of the step. Assumes nothing.
 use Prim.Native.Nat.{ℕ, _+_, _<_, _≤_}
 use native.Mathlib.Omega.{arith}
-use mathlib.Core.Path.{_≡_, refl, sym, ap, _∙_}
-use mathlib.Core.Bool.{Bool, true, false}
+use mathlib.Core.Path.{_≡_, refl, sym, ap, ap₂, subst, _∙_}
+use mathlib.Core.Logic.{_≢_}
 use mathlib.Core.List.{List, [], _∷_}
 use lib.ListN.{length, getD}
-use Rattle.hgn.specs.Meaning.{literals, nodeOf}
-use Rattle.hgn.specs.State.{State, γ, allHold, formulaHolds, relevant}
+use Rattle.hgn.specs.Meaning.{Domain, Formula, nodeOf, networkOf}
+use Rattle.hgn.specs.State.{State, γ}
 use Rattle.hgn.specs.Network as Network
+use Rattle.hgn.specs.Network.{mostWaiting, goalAt, decomposed}
 use Rattle.hgn.specs.Run as Run
-use Rattle.hgn.specs.Run.{ask}
-use Rattle.hgn.proofs.Steps.{answered}
-use Rattle.sheets.specs.declared.index.Span.{Span}
+use Rattle.hgn.specs.Run.{refused, taken, stepped, actionAt, methodAt}
+use Rattle.hgn.specs.Shop.{domain}
+use Rattle.hgn.proofs.Runs.{resumed, run-cons}
+use Rattle.hgn.proofs.Replayed.{RunNumbered, run-numbered}
 use Rattle.steps.specs.Entries.{spanRows, noEntry, entriesOf, listOf, without}
-use Rattle.steps.specs.Steps.{releaseStepped, actionStepped}
-use Rattle.steps.specs.Steps as Spec
+use Rattle.steps.specs.Moves.{knownOf}
+use Rattle.steps.specs.Steps.{Stepped, ifFree}
+use Rattle.steps.specs.Deciding.{questionOf, toldOf, carried, Room, Taking, Decides}
 use Rattle.steps.specs.declared.waiting.Entry.{Entry}
 use Rattle.steps.specs.declared.waiting.Waiting.{Waiting}
+use Rattle.steps.specs.declared.moves.Move.{Move}
+use Rattle.steps.specs.declared.moves.Move.the-variants.{Release, Act, Use}
 use Rattle.steps.specs.declared.problem.Problem.{Problem}
 use Rattle.steps.specs.declared.problem.Stepped as Code
-use Rattle.steps.proofs.Goals.{goal-formula, list-released, taken-action}
+use Rattle.steps.specs.declared.questions.Decision.{Decision}
+use Rattle.steps.specs.declared.questions.Decision.the-variants.{Refused, Takes}
+use Rattle.steps.proofs.Goals.{list-length, goal-formula, list-released, taken-action}
 use Rattle.steps.proofs.Bodies.{refused-is}
-
--- A question answered no.
-pub denied : (b : Bool) (number : ℕ) (rest : Run.Stepped) → b ≡ false → ask b number rest ≡ Run.refused number
-unfolding ask
-denied b number rest e = rw e
+use Rattle.steps.proofs.Decided.{leaves-room, takes-it, refuses-it}
 
 -- The code refuses.
-abbrev pub Refusal : Code.Stepped → ℕ → Problem → Type 0
+abbrev Refusal : Code.Stepped → ℕ → Problem → Type 0
 Refusal r number b = (r .number ≡ number) × (r .problem ≡ b) × (r .action ≡ 0)
 
--- A problem with at most 64 goals, and the goal at a place.
-module _ (shop order : List ℕ) (b : Problem) (full : length (b .waiting .entries) ≡ 64) (few : b .waiting .count ≤ 64)
-    (p : ℕ) (inside : p < b .waiting .count) (g : Entry) (at : g ≡ getD (entriesOf (b .waiting)) p noEntry) where
-  formula-is : Network.goalAt (listOf shop order (b .waiting)) p .formula ≡ nodeOf (spanRows shop order (g .rows)) .formula
-  formula-is = goal-formula shop order (b .waiting) full few p inside g at
+-- The code takes a move.
+abbrev Advance : Code.Stepped → State → Waiting → ℕ → Type 0
+Advance r s w action = r ≡ record { number = 0; problem = record { atoms = s; waiting = w }; action = action }
 
-  module _ {holds : Bool} (said : holds ≡ formulaHolds (b .atoms) (nodeOf (spanRows shop order (g .rows)) .formula)) where
-    asked-goal : formulaHolds (b .atoms) (Network.goalAt (listOf shop order (b .waiting)) p .formula) ≡ holds
-    asked-goal = ap (formulaHolds (b .atoms)) formula-is ∙ sym said
+-- No step is refused with the number 0.
+refused-numbered : (d : Domain) (n : ℕ) (s : State) (w : List Network.Waiting) (x : Run.Step) (q : ℕ) → stepped mostWaiting d n s w x ≡ refused q → q ≢ 0
+unfolding resumed
+refused-numbered d n s w x q e =
+    subst RunNumbered (run-cons mostWaiting d n s w x [] ∙ ap (resumed mostWaiting d n []) e) (run-numbered mostWaiting d n s w (x ∷ []))
 
-    pub release-taken : holds ≡ true → (w : Waiting) → (entriesOf w ≡ without (entriesOf (b .waiting)) p) × (w .count + 1 ≡ b .waiting .count)
-        → Spec.Stepped (releaseStepped shop order b p) shop order b (record { number = 0; problem = record { atoms = b .atoms; waiting = w }; action = 0 })
-    release-taken t w e = record {
-      comes-to =
-          ap (Run.taken [] (b .atoms)) (list-released shop order (entriesOf (b .waiting)) p (e .0))
-          ∙ sym (answered _ 29 _ (asked-goal ∙ t));
+module _ (shop order : List ℕ) (n : ℕ) (b : Problem) (few : b .waiting .count ≤ 64) (p : ℕ) where
+  abbrev w : List Network.Waiting
+  w = listOf shop order (b .waiting)
+
+  -- A move that may be taken, by its cases.
+  module _ {m : Move} {r : Code.Stepped} where
+    pub took-release : m ≡ Release → (v : Waiting) → (entriesOf v ≡ without (entriesOf (b .waiting)) p) × (v .count + 1 ≡ b .waiting .count)
+        → Advance r (b .atoms) v 0 → Stepped (carried (domain shop) n (b .atoms) (listOf shop order (b .waiting)) p m) shop order b r
+    took-release e v h is = rw (e, is) (record {
+      comes-to = ap (taken [] (b .atoms)) (list-released shop order (entriesOf (b .waiting)) p (h .0));
       unchanged = λ z. absurd (z refl);
-      within = omega (arith, e .1);
-    }
+      within = omega (arith, h .1);
+    })
 
-    pub release-refused : holds ≡ false → (r : Code.Stepped) → Refusal r 29 b → Spec.Stepped (releaseStepped shop order b p) shop order b r
-    release-refused f r e = refused-is shop order b r 29 (λ z. absurd (omega arith)) few (denied _ 29 _ (asked-goal ∙ f)) e
-
-  module _ (s : Span) (k : ℕ) {able helps : Bool} (needs : able ≡ allHold (b .atoms) (literals 3 4 (spanRows shop order s)))
-      (said : helps ≡ relevant (literals 5 6 (spanRows shop order s)) (nodeOf (spanRows shop order (g .rows)) .formula)) where
-    asked-effects : relevant (literals 5 6 (spanRows shop order s)) (Network.goalAt (listOf shop order (b .waiting)) p .formula) ≡ helps
-    asked-effects = ap (relevant (literals 5 6 (spanRows shop order s))) formula-is ∙ sym said
-
-    pub act-taken : able ≡ true → helps ≡ true → 1 ≤ k → (n : State) → n ≡ γ (b .atoms) (literals 5 6 (spanRows shop order s))
-        → Spec.Stepped (actionStepped shop order b k s p) shop order b (record { number = 0; problem = record { atoms = n; waiting = b .waiting }; action = k })
-    act-taken a h one n e = record {
+    pub took-action : {k : ℕ} → m ≡ Act k → 1 ≤ k → (s : State) → s ≡ γ (b .atoms) (actionAt (domain shop) k .effects)
+        → Advance r s (b .waiting) k → Stepped (carried (domain shop) n (b .atoms) (listOf shop order (b .waiting)) p m) shop order b r
+    took-action {k} e low s h is = rw (e, is) (record {
       comes-to =
-          taken-action shop order (record { number = 0; problem = record { atoms = n; waiting = b .waiting }; action = k }) refl (λ z. absurd (omega arith))
-          ∙ ap (λ (x : State). Run.taken (k ∷ []) x (listOf shop order (b .waiting))) e
-          ∙ sym (answered _ 30 _ (sym needs ∙ a) ∙ answered _ 31 _ (asked-effects ∙ h));
+          taken-action shop order (record { number = 0; problem = record { atoms = s; waiting = b .waiting }; action = k }) refl (λ z. absurd (omega arith))
+          ∙ ap (λ (x : State). taken (k ∷ []) x w) h;
       unchanged = λ z. absurd (z refl);
       within = few;
-    }
+    })
 
-    pub act-irrelevant : able ≡ true → helps ≡ false → (r : Code.Stepped) → Refusal r 31 b → Spec.Stepped (actionStepped shop order b k s p) shop order b r
-    act-irrelevant a h r e =
-        refused-is shop order b r 31 (λ z. absurd (omega arith)) few (answered _ 30 _ (sym needs ∙ a) ∙ denied _ 31 _ (asked-effects ∙ h)) e
+    pub took-method : {k : ℕ} → m ≡ Use k → (v : Waiting) → listOf shop order v ≡ decomposed (listOf shop order (b .waiting)) p n (networkOf (methodAt (domain shop) k)) → v .count ≤ 64
+        → Advance r (b .atoms) v 0 → Stepped (carried (domain shop) n (b .atoms) (listOf shop order (b .waiting)) p m) shop order b r
+    took-method e v h small is = rw (e, is) (record {
+      comes-to = ap (taken [] (b .atoms)) h;
+      unchanged = λ z. absurd (z refl);
+      within = small;
+    })
 
--- An action whose needs do not hold.
-pub act-unable : (shop order : List ℕ) (b : Problem) → b .waiting .count ≤ 64 → (p : ℕ) (s : Span) (k : ℕ) {able : Bool}
-    → able ≡ allHold (b .atoms) (literals 3 4 (spanRows shop order s)) → able ≡ false
-    → (r : Code.Stepped) → Refusal r 30 b → Spec.Stepped (actionStepped shop order b k s p) shop order b r
-act-unable shop order b few p s k needs a r e = refused-is shop order b r 30 (λ z. absurd (omega arith)) few (denied _ 30 _ (sym needs ∙ a)) e
+  -- A step as it was decided.
+  module _ (move : ℕ) (x : Decision) (decides : Decides shop (b .atoms) (listOf shop order (b .waiting)) move p x) where
+    pub step-refused : {q : ℕ} {r : Code.Stepped} → x ≡ Refused q → Refusal r (toldOf (listOf shop order (b .waiting)) q) b
+        → Stepped (stepped mostWaiting (domain shop) n (b .atoms) (listOf shop order (b .waiting)) (record { move = move; place = p })) shop order b r
+    step-refused {r = r} e t =
+        let c = subst (Decides shop (b .atoms) w move p) e decides n in
+        refused-is shop order b r _ (refused-numbered (domain shop) n (b .atoms) w _ _ c) few c t
+
+    module _ {m : Move} (e : x ≡ Takes m) where
+      pub step-takes : Taking shop (b .atoms) (listOf shop order (b .waiting)) move p m
+      step-takes = subst (Decides shop (b .atoms) w move p) e decides
+
+      pub step-taken : {r : Code.Stepped} → Stepped (carried (domain shop) n (b .atoms) (listOf shop order (b .waiting)) p m) shop order b r
+          → Stepped (stepped mostWaiting (domain shop) n (b .atoms) (listOf shop order (b .waiting)) (record { move = move; place = p })) shop order b r
+      step-taken {r} t = subst (λ o. Stepped o shop order b r) (sym (step-takes .comes n)) t
+
+  -- A move's own questions, asked of the goal at a place.
+  module _ (full : length (b .waiting .entries) ≡ 64) (inside : p < b .waiting .count) (g : Entry) (at : g ≡ getD (entriesOf (b .waiting)) p noEntry) (m : Move) {q : ℕ}
+      (said : q ≡ questionOf (domain shop) (b .atoms) (nodeOf (spanRows shop order (g .rows)) .formula) (b .waiting .count) (knownOf m)) where
+    asked : questionOf (domain shop) (b .atoms) (goalAt w p .formula) (length w) (knownOf m) ≡ q
+    asked =
+        ap₂ (λ (f : Formula) (c : ℕ). questionOf (domain shop) (b .atoms) f c (knownOf m)) (goal-formula shop order (b .waiting) full few p inside g at) (list-length shop order (b .waiting) full few)
+        ∙ sym said
+
+    before : p < length w
+    before = omega (arith, list-length shop order (b .waiting) full few)
+
+    pub move-room : q ≡ 0 → Room (domain shop) (b .waiting .count) m
+    move-room z = leaves-room (domain shop) (b .atoms) _ (b .waiting .count) m (sym said ∙ z)
+
+    pub move-taken : q ≡ 0 → {r : Code.Stepped} → Stepped (carried (domain shop) n (b .atoms) (listOf shop order (b .waiting)) p m) shop order b r
+        → Stepped (ifFree (domain shop) n (b .atoms) (listOf shop order (b .waiting)) p (knownOf m)) shop order b r
+    move-taken z {r} t = subst (λ o. Stepped o shop order b r) (sym (takes-it (domain shop) n (b .atoms) w p before m (asked ∙ z))) t
+
+    pub move-refused : q ≢ 0 → {r : Code.Stepped} → Refusal r q b → Stepped (ifFree (domain shop) n (b .atoms) (listOf shop order (b .waiting)) p (knownOf m)) shop order b r
+    move-refused z {r} t = refused-is shop order b r q z few (refuses-it (domain shop) n (b .atoms) w p before m q asked z) t

@@ -4,21 +4,17 @@ use mathlib.Core.Path.{_≡_}
 use mathlib.Core.Bool.{cond}
 use mathlib.Core.List.{List, [], _∷_, _++_}
 use lib.Dec.{eqb, leb}
-use lib.ListN.{length, take, drop}
-use Rattle.hgn.specs.Meaning.{Domain, literals, goalOf, networkOf}
+use lib.ListN.{length, take}
+use Rattle.hgn.specs.Meaning.{Domain, goalOf, networkOf}
 use Rattle.hgn.specs.State.{State, γ, allHold, formulaHolds, relevant}
 use Rattle.hgn.specs.Network.{Waiting, mostWaiting, goalAt, released, decomposed}
-use Rattle.hgn.specs.Tag as Tag
 use Rattle.hgn.specs.Run as Run
 use Rattle.hgn.specs.Run.{actionAt, methodAt}
 use Rattle.hgn.specs.Verdict.{passed}
 use Rattle.hgn.specs.Shop.{rowCount, actionCount, methodCount, shopRows}
 use Rattle.hgn.specs.Order.{checkOrder}
 use Rattle.sheets.specs.Index.{starts, ends}
-use Rattle.sheets.specs.declared.index.Span.{Span}
-use Rattle.steps.specs.Entries.{listOf, entriesOf, spanRows}
-use Rattle.steps.specs.Entering.{Bounds, Walk, entriesFrom}
-use Rattle.steps.specs.declared.enter.Network as Enter
+use Rattle.steps.specs.Entries.{listOf}
 use Rattle.steps.specs.declared.problem.Problem.{Problem}
 use Rattle.steps.specs.declared.problem.Stepped as Code
 
@@ -59,27 +55,3 @@ ifFree d n s w p (Run.use-method m) =
     (Run.ask (relevant (goalOf (methodAt d m)) (goalAt w p .formula)) 31
     (Run.ask (leb (length (decomposed w p n (networkOf (methodAt d m)))) mostWaiting) 32
     (Run.taken [] s (decomposed w p n (networkOf (methodAt d m))))))
-
--- A release at a place of the code's record.
-abbrev pub releaseStepped : List ℕ → List ℕ → Problem → ℕ → Run.Stepped
-releaseStepped shop order b p =
-    Run.ask (formulaHolds (b .atoms) (goalAt (listOf shop order (b .waiting)) p .formula)) 29
-    (Run.taken [] (b .atoms) (released (listOf shop order (b .waiting)) p))
-
--- An action by its rows.
-abbrev pub actionStepped : List ℕ → List ℕ → Problem → ℕ → Span → ℕ → Run.Stepped
-actionStepped shop order b k rows p =
-    Run.ask (allHold (b .atoms) (literals Tag.needsTrue Tag.needsFalse (spanRows shop order rows))) 30
-    (Run.ask (relevant (literals Tag.makesTrue Tag.makesFalse (spanRows shop order rows)) (goalAt (listOf shop order (b .waiting)) p .formula)) 31
-    (Run.taken (k ∷ []) (γ (b .atoms) (literals Tag.makesTrue Tag.makesFalse (spanRows shop order rows))) (listOf shop order (b .waiting))))
-
--- The nodes of a walk enter the code's record, if no more than 64 then wait: 32.
-pub record Grown (table : List ℕ) (network : Enter.Network) (first e count place : ℕ) (problem : Problem) (r : Code.Stepped) : Type 0 where
-  pub number : r .number ≡ cond (leb (problem .waiting .count + count) mostWaiting) 0 32
-  pub unchanged : (r .number ≡ 0 → ⊥) → r .problem ≡ problem
-  pub atoms : r .problem .atoms ≡ problem .atoms
-  pub action : r .action ≡ 0
-  pub within : r .problem .waiting .count ≤ mostWaiting
-  pub entries : r .number ≡ 0 → (bs : List Bounds) → Walk table e first bs → entriesOf (r .problem .waiting)
-      ≡ take place (entriesOf (problem .waiting))
-      ++ (entriesFrom (network .sheet) (network .origin) (network .parent) (network .method) e 0 bs ++ drop place (entriesOf (problem .waiting)))

@@ -14,7 +14,6 @@ use sheets::tag;
 ghost use mathlib.Core.Path.{_≡_};
 ghost use mathlib.Core.List.{List};
 ghost use Prim.Native.Nat.{_≤_, _<_};
-ghost use lib.ListN.{length};
 ghost use Rattle.hgn.specs.Meaning.{nodeOf};
 ghost use Rattle.hgn.specs.Network as Network;
 ghost use Rattle.hgn.specs.Run as Run;

@@ -1,20 +1,57 @@
-// One step, as the questions 25 to 32 in their order. Document 01, "Questions".
+// One step: its questions, then the move. Document 01, "Questions".
 use crate::free;
 use crate::moves::Move;
-use crate::moves::Read;
+use crate::problem;
 use crate::problem::Problem;
 use crate::problem::Stepped;
+use crate::questions;
+use crate::questions::Decision;
+use crate::waiting::Name;
 use crate::waiting::Place;
-use sheets::index::Span;
-use sheets::position::Sheet;
-use sheets::rows::word;
+ghost use mathlib.Core.Path.{_≡_};
 ghost use Prim.Native.Nat.{_≤_, _<_};
 ghost use Rattle.hgn.specs.Run as Run;
 ghost use Rattle.hgn.specs.Shop.{domain, actionCount, methodCount};
 ghost use Rattle.hgn.specs.Network.{mostWaiting};
-ghost use Rattle.steps.specs.Entries.{listOf};
+ghost use Rattle.steps.specs.Entries.{listOf, entryAt};
 ghost use Rattle.steps.specs.Steps.{Stepped as Is, Indexed, ifFree};
 ghost use Rattle.steps.specs.Moves.{Known, knownOf};
+ghost use Rattle.steps.specs.Deciding.{carried, Room};
+
+// The move at a place whose goal has this name, where every question was answered yes.
+fn taken<'a>(
+    shop: &'a [u16],
+    order: &'a [u16],
+    ends: &[u16],
+    starts: &[u16],
+    problem: Problem,
+    number: u16,
+    known: Move,
+    name: Name,
+    place: Place,
+) -> Stepped
+    requires { ⌜ Indexed (now shop) (now order) (now ends) (now starts) ⌝ }
+    requires { ⌜ (place .0 < problem .waiting .count) × (problem .waiting .count ≤ 64) × (name ≡ entryAt (problem .waiting) (place .0) .name) ⌝ }
+    requires { ⌜ Known (actionCount (now shop)) (methodCount (now shop)) known × (number < 65535) × Room (domain (now shop)) (problem .waiting .count) known ⌝ }
+    ensures { λ r. ⌜ Is (carried (domain (now (shop .entry))) number (problem .atoms) (listOf (now (shop .entry)) (now (order .entry)) (problem .waiting)) (place .0) known) (now (shop .entry)) (now (order .entry)) problem r ⌝ }
+{
+    let atoms = problem.atoms;
+    let waiting = problem.waiting;
+    match known {
+        Move::Release => {
+            let next = waiting.released(place);
+            Stepped::taken(atoms, next, 0)
+        }
+        Move::Act(action) => {
+            let next = problem::acted(atoms, shop, order, starts, action);
+            Stepped::taken(next, waiting, action)
+        }
+        Move::Use(method) => {
+            let next = waiting.decomposed(shop, ends, starts, number, method, name, place);
+            Stepped::taken(atoms, next, 0)
+        }
+    }
+}
 
 // The move at a place where a goal is free.
 pub fn take_move<'a>(
@@ -32,24 +69,36 @@ pub fn take_move<'a>(
     requires { ⌜ Known (actionCount (now shop)) (methodCount (now shop)) known × (number < 65535) ⌝ }
     ensures { λ r. ⌜ Is (ifFree (domain (now (shop .entry))) number (problem .atoms) (listOf (now (shop .entry)) (now (order .entry)) (problem .waiting)) (place .0) (knownOf known)) (now (shop .entry)) (now (order .entry)) problem r ⌝ }
 {
-    match known {
-        Move::Release => problem.release(shop, order, place),
-        Move::Act(action) => {
-            let at = action as usize;
-            let from = starts[at - 1];
-            let to = starts[at];
-            let rows = Span {
-                sheet: Sheet::Shop,
-                from: from,
-                to: to,
-            };
-            problem.act(shop, order, action, rows, place)
-        }
-        Move::Use(method) => problem.use_method(shop, order, ends, starts, number, method, place),
+    let atoms = problem.atoms;
+    let waiting = problem.waiting;
+    let goal = waiting.goal(place);
+    let question = questions::of_move(
+        shop,
+        order,
+        ends,
+        starts,
+        &atoms,
+        known,
+        goal.rows,
+        waiting.count,
+    );
+    if question == 0 {
+        return taken(
+            shop,
+            order,
+            ends,
+            starts,
+            problem,
+            number,
+            known,
+            goal.name,
+            place,
+        );
     }
+    Stepped::refused(question, problem)
 }
 
-// Place below the number waiting? 25. Move known? 26. Is any waiting goal free? 27. Is this goal free? 28. Then the move's own.
+// The questions 25 to 32 in their order, then the move.
 pub fn step<'a>(
     shop: &'a [u16],
     order: &'a [u16],
@@ -64,21 +113,38 @@ pub fn step<'a>(
     requires { ⌜ (problem .waiting .count ≤ 64) × (number < 65535) ⌝ }
     ensures { λ r. ⌜ Is (Run.stepped mostWaiting (domain (now (shop .entry))) number (problem .atoms) (listOf (now (shop .entry)) (now (order .entry)) (problem .waiting)) (record { move = mv; place = place .0 })) (now (shop .entry)) (now (order .entry)) problem r ⌝ }
 {
+    let atoms = problem.atoms;
     let waiting = problem.waiting;
-    if place.0 < waiting.count {
-        let actions = word(shop, 1);
-        let methods = word(shop, 2);
-        let reading = Move::read(mv, actions, methods);
-        let Read::Is(known) = reading else {
-            return Stepped::refused(26, problem);
-        };
-        if free::is_free(shop, order, waiting, place) {
-            return take_move(shop, order, ends, starts, problem, number, known, place);
+    let seen = free::look(shop, order, waiting, place);
+    let decision = questions::decide(
+        shop,
+        order,
+        ends,
+        starts,
+        &atoms,
+        seen,
+        waiting.count,
+        mv,
+        place,
+    );
+    match decision {
+        Decision::Refused(question) => {
+            let told = questions::told(shop, order, waiting, question);
+            Stepped::refused(told, problem)
         }
-        if free::any_free(shop, order, waiting) {
-            return Stepped::refused(28, problem);
+        Decision::Takes(known) => {
+            let goal = seen.goal;
+            taken(
+                shop,
+                order,
+                ends,
+                starts,
+                problem,
+                number,
+                known,
+                goal.name,
+                place,
+            )
         }
-        return Stepped::refused(27, problem);
     }
-    Stepped::refused(25, problem)
 }

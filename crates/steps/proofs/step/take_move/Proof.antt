@@ -1,37 +1,39 @@
--- Each move's own questions, by its cases; an action's rows stand from its start up to the next. Assumes nothing.
+-- The move's own questions, asked of the goal at the place; then the move. Assumes nothing.
 use native.Mathlib.Omega.{arith}
+use mathlib.Core.Path.{_≡_, ap}
+use lib.ListN.{length, length-map}
 use borrow.Author.Needs.{needs}
-use Rattle.steps.proofs.Tables.{starts-fit}
-use Rattle.steps.proofs.Actions.{known-action, known-method, took-release, took-action, took-method}
+use Rattle.steps.specs.declared.waiting.Entry.{Entry}
+use Rattle.steps.proofs.Taken.{move-room, move-taken, move-refused}
 use Rattle.steps.proofs.step.take_move.Statement.{statement}
 use Rattle.steps.proofs.step.take_move.Tie as tie
+
+full : (s : tie.Start) → length (s .args .problem .waiting .entries) ≡ 64
+full s = omega (arith, simp length-map at (s .good .1 .1 .1 .1 .0 .1 .1 .1 .0 .1 .1 .0 .1 .0 .1))
 
 pub take-move-spec : {M : Type 1} → statement M
 take-move-spec =
     tie.close
     (tie.spec
-    (λ c. search needs)
-    (λ c κs. search needs)
-    (λ c. search needs)
-    (λ c. search needs)
-    (λ c. let s = c .before .before .before .before .before .before .before in known-action (s .pre .0) (s .pre .1 .1 .0) (c .before .known .given .1) .0)
-    (λ c. search needs)
-    (λ c.
-    let s = c .before .before .before .before .before .before .before .before in
-    omega (arith, starts-fit (s .pre .0), known-action (s .pre .0) (s .pre .1 .1 .0) (c .before .before .known .given .1)))
-    (λ c. search needs)
-    (λ c.
-    let s = c .before .before .before .before .before .before .before .before .before in
-    omega (arith, starts-fit (s .pre .0), known-action (s .pre .0) (s .pre .1 .1 .0) (c .before .before .before .known .given .1)))
+    (λ c κs. c .before .before .before .before .before .before .pre .1 .0 .1)
+    (λ c κs. let s = c .before .before .before .before .before .before .before .before in (s .pre .0, (s .pre .1 .1 .0, s .pre .1 .0 .1)))
     (λ c κs.
-    let s = c .before .before .before .before .before .before .before .before .before in
-    (s .pre .1 .0 .0, s .pre .1 .0 .1, known-action (s .pre .0) (s .pre .1 .1 .0) (c .before .before .before .known .given .1) .0))
-    (λ c. search needs)
-    (λ c κs.
-    let s = c .before .before .before .before .before .before .before in
-    (s .pre .0, (s .pre .1 .0 .0, s .pre .1 .0 .1, known-method (s .pre .0) (s .pre .1 .1 .0) (c .before .known2 .given .1), s .pre .1 .1 .1)))
-    (λ c. took-release (c .before .before .before .before .before .before .before .pre .0) _ _ _ (c .before .enum-told .given .1) (c .release .ensures))
-    (λ c.
     let s = c .before .before .before .before .before .before .before .before .before .before in
-    took-action (s .pre .0) _ _ _ (s .pre .1 .1 .0) (c .before .before .before .before .known .given .1) (c .act .ensures))
-    (λ c. took-method (c .before .before .before .before .before .before .before .before .pre .0) _ _ _ (c .before .before .known2 .given .1) (c .use-method .ensures)))
+    let g = c .before .before .before .goal in (
+      s .pre .0,
+      (
+        (s .pre .1 .0 .0, s .pre .1 .0 .1, ap (λ (x : Entry). x .name) (g .ensures)),
+        (
+          s .pre .1 .1 .0,
+          s .pre .1 .1 .1,
+          move-room _ _ (s .args .number) _ (s .pre .1 .0 .1) _ (full s) (s .pre .1 .0 .0) _ (g .ensures) (s .args .known) (c .before .of-move .ensures) (c .if1 .taken),
+        ),
+      ),
+    ))
+    (λ c.
+    let s = c .before .before .before .before .before .before .before .before .before .before .before in
+    move-taken _ _ _ _ (s .pre .1 .0 .1) _ (full s) (s .pre .1 .0 .0) _ (c .before .before .before .before .goal .ensures) (s .args .known) (c .before .before .of-move .ensures) (c .before .if1 .taken) (c .taken .ensures))
+    (λ c κs. search needs)
+    (λ c.
+    let s = c .before .before .before .before .before .before .before .before .before .before .before in
+    move-refused _ _ _ _ (s .pre .1 .0 .1) _ (full s) (s .pre .1 .0 .0) _ (c .before .before .before .before .goal .ensures) (s .args .known) (c .before .before .of-move .ensures) (c .before .if1 .left) (c .refused .ensures)))
