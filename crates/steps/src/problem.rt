@@ -59,8 +59,10 @@ pub fn changed<'a>(atoms: [bool; 256], shop: &'a [u16], order: &'a [u16], rows: 
 {
     let tags = index::tags_of(rows, shop, order);
     let values = index::values_of(rows, shop, order);
-    let less = state::assigned(atoms, tags, values, tag::MAKES_FALSE, false);
-    state::assigned(less, tags, values, tag::MAKES_TRUE, true)
+    let mut next = atoms;
+    state::assign(&mut next, tags, values, tag::MAKES_FALSE, false);
+    state::assign(&mut next, tags, values, tag::MAKES_TRUE, true);
+    next
 }
 
 // The state after an action by its number.

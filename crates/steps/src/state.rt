@@ -37,22 +37,29 @@ pub fn holds(atoms: &[bool; 256], atom: Atom, sign: bool) -> bool
     false == sign
 }
 
-// The atoms in the values of the rows with this tag, put in (true) or taken out (false).
-pub fn assigned(atoms: [bool; 256], tags: &[u16], values: &[u16], tag: u16, to: bool) -> [bool; 256]
-    ensures { λ r. ⌜ r ≡ assign to (valuesOf tag (zipWith row (now (tags .entry)) (now (values .entry)))) atoms ⌝ }
+// The atoms in the values of the rows with this tag are put in (true) or taken out (false), where they stand.
+pub fn assign(atoms: &mut [bool], tags: &[u16], values: &[u16], tag: u16, to: bool)
+    ensures { λ _. ⌜ now (atoms .exit) ≡ assign to (valuesOf tag (zipWith row (now (tags .entry)) (now (values .entry)))) (now (atoms .entry)) ⌝ }
 {
     let n = part::rows(tags, values);
-    let mut next = atoms;
     let mut i = 0;
     while i < n {
         let row = i;
         i += 1;
         if tags[row] == tag {
             let at = values[row] as usize;
-            if at < State::MOST {
-                next[at] = to;
+            if at < atoms.len() {
+                atoms[at] = to;
             }
         }
     }
+}
+
+// The same, of a state by value.
+pub fn assigned(atoms: [bool; 256], tags: &[u16], values: &[u16], tag: u16, to: bool) -> [bool; 256]
+    ensures { λ r. ⌜ r ≡ assign to (valuesOf tag (zipWith row (now (tags .entry)) (now (values .entry)))) atoms ⌝ }
+{
+    let mut next = atoms;
+    assign(&mut next, tags, values, tag, to);
     next
 }

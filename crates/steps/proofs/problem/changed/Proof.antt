@@ -12,17 +12,25 @@ use Rattle.steps.proofs.Changes.{changes}
 use Rattle.steps.proofs.problem.changed.Statement.{statement}
 use Rattle.steps.proofs.problem.changed.Tie as tie
 
-pub changed-spec : {M : Type 1} → statement M
+returns : tie.Need-returns
 unfolding spanRows
+returns c =
+    let first = c .before .before .before .before in
+    let cut = first .before .before in
+    let start = cut .before .before .before .before in
+    c .before .assign2 .ensures
+    ∙ ap (assign true (valuesOf 5 (zipWith row (cut .before .tags-of .result .now) (cut .values-of .result .now)))) (first .assign .ensures)
+    ∙ changes (zipWith row (cut .before .tags-of .result .now) (cut .values-of .result .now)) (start .args .atoms)
+    ∙ ap₂ (λ (x y : List ℕ). γ (start .args .atoms) (literals 5 6 (zipWith row x y))) (cut .before .tags-of .ensures) (cut .values-of .ensures)
+
+pub changed-spec : {M : Type 1} → statement M
 changed-spec =
     tie.close
     (tie.spec
     (λ c κs. search needs)
     (λ c κs. search needs)
+    (λ c. search needs)
     (λ c κs. search needs)
+    (λ c. search needs)
     (λ c κs. search needs)
-    (λ c.
-    c .assigned2 .ensures
-    ∙ ap (assign true (valuesOf 5 (zipWith row (c .before .before .before .tags-of .result .now) (c .before .before .values-of .result .now)))) (c .before .assigned .ensures)
-    ∙ changes (zipWith row (c .before .before .before .tags-of .result .now) (c .before .before .values-of .result .now)) (c .before .before .before .before .before .before .args .atoms)
-    ∙ ap₂ (λ (x y : List ℕ). γ (c .before .before .before .before .before .before .args .atoms) (literals 5 6 (zipWith row x y))) (c .before .before .before .tags-of .ensures) (c .before .before .values-of .ensures)))
+    returns)

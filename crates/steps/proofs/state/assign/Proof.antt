@@ -9,15 +9,15 @@ use Rattle.hgn.specs.Rows.{row, valuesOf}
 use Rattle.hgn.specs.State.{assign}
 use Rattle.steps.proofs.Walks.{by-row, at-end}
 use Rattle.steps.proofs.ByRow.{assignedIn, assigned-first, assigned-other, assigned-none}
-use Rattle.steps.proofs.state.assigned.Statement.{statement}
-use Rattle.steps.proofs.state.assigned.Tie as tie
+use Rattle.steps.proofs.state.assign.Statement.{statement}
+use Rattle.steps.proofs.state.assign.Tie as tie
 
 abbrev Inv-loop : tie.InvT-loop
-Inv-loop tags values tag to n next₀ i₀ next i =
-    (assignedIn to tag next₀ (zipWith row tags values) ≡ assignedIn to tag next (drop i (zipWith row tags values))) × (length next ≡ 256)
+Inv-loop atoms₀ tags values tag to n i₀ atoms i =
+    (assignedIn to tag atoms₀ (zipWith row tags values) ≡ assignedIn to tag atoms (drop i (zipWith row tags values))) × (length atoms ≡ length atoms₀)
 
 abbrev μ-loop : tie.MeasureT-loop
-μ-loop tags values tag to n next₀ i₀ next i = n - i
+μ-loop atoms₀ tags values tag to n i₀ atoms i = n - i
 
 loop-again : tie.Need-loop-again Inv-loop μ-loop
 loop-again c =
@@ -48,14 +48,14 @@ unfolding assign valuesOf
 returns c =
     sym (at-end (assignedIn _ _ _) _ _ _ _ (c .before .before .rows .ensures) (c .before .loop .inv .0) (c .loop-test .left) refl)
 
-pub assigned-spec : {M : Type 1} → statement M
-assigned-spec =
+pub assign-spec : {M : Type 1} → statement M
+assign-spec =
     tie.close
     (tie.spec
     Inv-loop
     μ-loop
     (λ c κs. search needs)
-    (λ c. (refl, search needs))
+    (λ c. (refl, refl))
     (λ c. search needs)
     (λ c. search needs)
     (λ c. search needs)
@@ -69,4 +69,5 @@ assigned-spec =
     loop-again-2
     (λ c. search needs)
     loop-again-3
+    (λ c. c .before .loop .inv .1)
     returns)
