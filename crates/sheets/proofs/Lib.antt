@@ -2,6 +2,7 @@
 pub mod Laws
 pub mod Counts
 pub mod Lookup
+pub mod Groups
 pub mod Scans
 pub mod Checks
 pub mod Spans

@@ -1,7 +1,8 @@
 -- The code's sheet, context, position and reading of a row, as the definitions have them. Document 01, "The three sheets".
-use Prim.Native.Nat.{ℕ, _+_}
-use mathlib.Core.Bool.{cond}
-use mathlib.Core.List.{List}
+use Prim.Native.Nat.{ℕ, suc, _+_}
+use mathlib.Core.Bool.{Bool, false, cond}
+use mathlib.Core.List.{List, [], _∷_}
+use lib.Dec.{eqb, leb, ltb}
 use Rattle.hgn.specs.Lists.{among}
 use Rattle.hgn.specs.Tag as Tag
 use Rattle.sheets.specs.declared.position.Sheet.{Sheet}
@@ -49,3 +50,17 @@ rowReading follow q F p t v =
     (cond (Tag.rises p t v) (next (Tag.advance p t v)) (refused (q + 2)))
     (refused (q + 1)))
     (refused q)
+
+-- A row that goes on in the group of a node's 11 rows or of an alternative's 9 and 10 rows, and the position after it.
+unfoldable pub goesOn : ℕ → Tag.Position → ℕ → ℕ → Bool
+goesOn F p t v = cond (leb (p .least) v) (elim (p .context) [
+  | Tag.atStart ↦ false
+  | Tag.inAction ↦ false
+  | Tag.inEffects ↦ false
+  | Tag.inMethod ↦ false
+  | Tag.inNode ↦ cond (eqb t Tag.after) (ltb (suc v) (p .nodes)) false
+  | Tag.inAlternative ↦ cond (among t (Tag.wantedTrue ∷ Tag.wantedFalse ∷ [])) (ltb v F) false
+]) false
+
+abbrev pub above : Tag.Position → ℕ → Tag.Position
+above p v = record { context = p .context; least = suc v; nodes = p .nodes }

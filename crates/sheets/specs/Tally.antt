@@ -82,6 +82,10 @@ counted t tag =
     (cond (eqb tag Tag.after) (withCounts t (t .nodes) (t .alternatives) (suc (t .afters)))
     t))))
 
+-- The counts after a row that goes on in its group: only an 11 row counts.
+unfoldable pub goneOn : Tally → ℕ → Tally
+goneOn t tag = cond (eqb tag Tag.after) (withCounts t (t .nodes) (t .alternatives) (suc (t .afters))) t
+
 -- The counts after these rows.
 unfoldable pub countedRows : Tally → List Row → Tally
 countedRows t [] = t

@@ -6,7 +6,7 @@ ghost use Prim.Native.Nat.{_<_};
 ghost use lib.Dec.{ltb};
 ghost use Rattle.hgn.specs.Lists.{among};
 ghost use Rattle.hgn.specs.Tag.{contextAfter, mayEnd, leastHere, inRange, rises, advance, opening};
-ghost use Rattle.sheets.specs.Reading.{contextOf, positionOf, followOf, firstQuestionOf, readingOf, rowReading};
+ghost use Rattle.sheets.specs.Reading.{contextOf, positionOf, followOf, firstQuestionOf, readingOf, rowReading, goesOn, above};
 
 // An atom by its number.
 pub struct Atom(pub u16);
@@ -253,6 +253,49 @@ impl Position {
                 nodes: nodes,
             };
         }
+        Position {
+            context: context,
+            least: value as u32 + 1,
+            nodes: nodes,
+        }
+    }
+
+    // The row goes on in its group, the 11 rows of a node or the 9 and 10 rows of an alternative: these are most rows of large sheets,
+    // they may stand in both sheets, and all that they change is the least value.
+    pub fn goes_on(self, atoms: u16, tag: u16, value: u16) -> bool
+        ensures { λ r. ⌜ r ≡ goesOn atoms (positionOf self) tag value ⌝ }
+    {
+        if self.least <= value as u32 {
+            let context = self.context;
+            let nodes = self.nodes;
+            return match context {
+                Context::AtStart => false,
+                Context::InAction => false,
+                Context::InEffects => false,
+                Context::InMethod => false,
+                Context::InNode => {
+                    if tag == tag::AFTER {
+                        return (value as u32) + 1 < (nodes as u32);
+                    }
+                    false
+                }
+                Context::InAlternative => {
+                    if tag::one_of_2(tag, tag::WANTED_TRUE, tag::WANTED_FALSE) {
+                        return Atom(value).below(atoms);
+                    }
+                    false
+                }
+            };
+        }
+        false
+    }
+
+    // The position after a row that goes on in its group.
+    pub fn above(self, value: u16) -> Position
+        ensures { λ r. ⌜ positionOf r ≡ above (positionOf self) value ⌝ }
+    {
+        let context = self.context;
+        let nodes = self.nodes;
         Position {
             context: context,
             least: value as u32 + 1,

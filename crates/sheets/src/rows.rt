@@ -71,20 +71,25 @@ impl Layout {
             i += 1;
             let tag = self.tag(words, Row(row));
             let value = self.value(words, Row(row));
-            tally = tally.counted(tag);
-            let reading = position.read(sheet, atoms, tag, value);
-            match reading {
-                Reading::Next(next) => {
-                    position = next;
-                }
-                Reading::Refused(number) => {
-                    let place = row as u16;
-                    return Scan {
-                        number: number,
-                        place: place,
-                        position: position,
-                        tally: tally,
-                    };
+            if position.goes_on(atoms, tag, value) {
+                tally = tally.gone_on(tag);
+                position = position.above(value);
+            } else {
+                tally = tally.counted(tag);
+                let reading = position.read(sheet, atoms, tag, value);
+                match reading {
+                    Reading::Next(next) => {
+                        position = next;
+                    }
+                    Reading::Refused(number) => {
+                        let place = row as u16;
+                        return Scan {
+                            number: number,
+                            place: place,
+                            position: position,
+                            tally: tally,
+                        };
+                    }
                 }
             }
         }

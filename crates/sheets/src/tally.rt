@@ -2,7 +2,7 @@
 // Document 01, "The three sheets", the node rules.
 use crate::tag;
 ghost use mathlib.Core.Path.{_≡_};
-ghost use Rattle.sheets.specs.Tally.{Small, nothing, withinRules, closed, counted};
+ghost use Rattle.sheets.specs.Tally.{Small, nothing, withinRules, closed, counted, goneOn};
 
 pub struct Tally {
     pub actions: u16,
@@ -105,6 +105,19 @@ impl Tally {
             t.alternatives = t.alternatives + 1;
             return t;
         }
+        if tag == tag::AFTER {
+            t.afters = t.afters + 1;
+            return t;
+        }
+        t
+    }
+
+    // The counts after a row that goes on in its group: only an 11 row counts.
+    pub fn gone_on(self, tag: u16) -> Tally
+        requires { ⌜ Small self ⌝ }
+        ensures { λ r. ⌜ r ≡ goneOn self tag ⌝ }
+    {
+        let mut t = self;
         if tag == tag::AFTER {
             t.afters = t.afters + 1;
             return t;
