@@ -1,4 +1,4 @@
-//! A plain and fast model of document 01, written from the paper alone.
+//! A plain and fast model of document 01.
 //!
 //! It shares no code with the proved library, so that the two can be compared
 //! on any input, and it is the baseline of the benchmarks.
