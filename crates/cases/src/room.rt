@@ -1,7 +1,7 @@
 // The room that a case lends: what its words hold before the call, and what is written of them after it.
 use crate::line;
 use crate::sheet;
-use sheets::rows::word;
+use scan::rows::word;
 ghost use Prim.Native.Nat.{_<_};
 ghost use lib.ListN.{length};
 

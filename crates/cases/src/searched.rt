@@ -2,9 +2,9 @@
 // Refused, `: NUMBER PLACE; rest kept`, and the rest is the whole room.
 use crate::line;
 use crate::room;
+use scan::rows::word;
 use search::call::search;
 use sheets::check::Verdict;
-use sheets::rows::word;
 
 // So many words of a room, or none where it has fewer.
 fn part(room: &[u16], from: usize, length: usize) -> &[u16] {

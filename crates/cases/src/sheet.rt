@@ -1,9 +1,9 @@
 // Sheets and traces written from text, as document 01 writes them: the sizes, then rows (tag value) or steps (move place).
 // A blank ends a number and a comma says nothing. `3(7 0, 11 n)` is what stands in the brackets three times, with n 0, 1 and 2.
+use scan::rows::word;
 use sheets::check::Order;
 use sheets::check::Shop;
 use sheets::check::Trace;
-use sheets::rows::word;
 
 // How many sizes each begins with; the last of them counts the rows or steps.
 pub const SHOP: u16 = Shop::SIZES as u16;

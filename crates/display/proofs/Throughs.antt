@@ -21,7 +21,7 @@ use Rattle.hgn.specs.Demands.{InputsPass}
 use Rattle.hgn.proofs.Runs.{resumed, run-cons}
 use Rattle.hgn.proofs.Replayed.{RunNumbered, run-numbered, inputs-passed}
 use Rattle.hgn.proofs.Traces.{trace-sizes}
-use Rattle.sheets.proofs.Lookup.{length-part}
+use Rattle.scan.proofs.Lookup.{length-part}
 use Rattle.steps.specs.Entries.{listOf}
 use Rattle.steps.specs.declared.problem.Problem.{Problem}
 use Rattle.steps.proofs.Goals.{list-length}

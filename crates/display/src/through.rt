@@ -1,7 +1,7 @@
 // A whole trace stepped through on the display. Document 01, "How a derivation runs" and "Questions".
 use crate::forward;
 use replay::first;
-use sheets::rows::word;
+use scan::rows::word;
 use steps::problem::Problem;
 use steps::waiting::Place;
 ghost use mathlib.Core.Path.{_≡_};

@@ -11,8 +11,8 @@ use Rattle.hgn.specs.Network.{Waiting}
 use Rattle.hgn.specs.Run.{act, use-method, actionAt, methodAt}
 use Rattle.hgn.specs.Shop.{domain}
 use Rattle.hgn.proofs.Tests.{not-true-false, false-not-true, true-any, mem-at, at-lt, at-getD}
-use Rattle.sheets.specs.declared.index.Span.{Span}
-use Rattle.sheets.specs.declared.position.Sheet.the-variants as Of
+use Rattle.spans.specs.declared.index.Span.{Span}
+use Rattle.reading.specs.declared.position.Sheet.the-variants as Of
 use Rattle.steps.specs.Entering.{Bounds, Walk}
 use Rattle.steps.proofs.Entered.{nodeAt}
 use Rattle.steps.proofs.NodeWalks.{ahead}

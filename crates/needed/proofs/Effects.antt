@@ -9,8 +9,8 @@ use Rattle.hgn.specs.Meaning.{Action, Literal, literals, nodeOf, actionOf}
 use Rattle.hgn.specs.State.{relevant}
 use Rattle.hgn.specs.Run.{actionAt}
 use Rattle.hgn.specs.Shop.{domain, actionCount}
-use Rattle.sheets.specs.declared.index.Span.{Span}
-use Rattle.sheets.proofs.Laws.{told}
+use Rattle.spans.specs.declared.index.Span.{Span}
+use Rattle.reading.proofs.Laws.{told}
 use Rattle.steps.specs.Entries.{spanRows, waitingOf}
 use Rattle.steps.specs.declared.waiting.Entry.{Entry}
 use Rattle.steps.specs.Steps.{Indexed}

@@ -16,8 +16,8 @@ use Rattle.hgn.specs.Run.{actionAt}
 use Rattle.hgn.specs.Shop.{domain, actionCount}
 use Rattle.hgn.proofs.Tests.{contains-iff}
 use Rattle.hgn.proofs.Checked.{shop-actions, shop-counts}
-use Rattle.sheets.specs.Index.{tagsOf, valuesOf}
-use Rattle.sheets.specs.declared.index.Span.{Span}
+use Rattle.spans.specs.Index.{tagsOf, valuesOf}
+use Rattle.spans.specs.declared.index.Span.{Span}
 use Rattle.steps.specs.Entries.{spanRows}
 use Rattle.steps.specs.Steps.{Indexed}
 use Rattle.steps.proofs.ByRow.{true-row, false-row, no-row, first-row}

@@ -15,8 +15,8 @@ use Rattle.hgn.specs.Run.{methodAt}
 use Rattle.hgn.specs.Shop.{domain, actionCount, methodCount}
 use Rattle.hgn.proofs.Tests.{true-any, at-mem, at-of-lt, false-not-true}
 use Rattle.hgn.proofs.Checked.{shop-counts}
-use Rattle.sheets.specs.declared.index.Span.{Span}
-use Rattle.sheets.specs.declared.position.Sheet.the-variants as Of
+use Rattle.spans.specs.declared.index.Span.{Span}
+use Rattle.reading.specs.declared.position.Sheet.the-variants as Of
 use Rattle.steps.specs.Entries.{spanRows}
 use Rattle.steps.specs.Entering.{Bounds, Walk}
 use Rattle.steps.specs.Steps.{Indexed}

@@ -20,12 +20,12 @@ use Rattle.hgn.specs.Run.{Move, act, use-method}
 use Rattle.hgn.specs.Shop.{domain, actionCount, methodCount}
 use Rattle.hgn.proofs.Tests.{contains-iff, false-not-true, at-mem, at-of-lt}
 use Rattle.hgn.proofs.Checked.{shop-counts}
-use Rattle.sheets.specs.declared.position.Sheet.the-variants as Of
-use Rattle.sheets.proofs.Indexed.{method-span}
+use Rattle.reading.specs.declared.position.Sheet.the-variants as Of
+use Rattle.spans.proofs.Indexed.{method-span}
 use Rattle.steps.specs.Entries.{spanRows, waitingOf, listOf, entriesOf}
 use Rattle.steps.specs.Steps.{Indexed}
-use Rattle.sheets.specs.Index.{tagsOf, valuesOf}
-use Rattle.sheets.specs.declared.index.Span.{Span}
+use Rattle.spans.specs.Index.{tagsOf, valuesOf}
+use Rattle.spans.specs.declared.index.Span.{Span}
 use Rattle.steps.specs.declared.waiting.Entry.{Entry}
 use Rattle.steps.specs.declared.waiting.Waiting as Code
 use Rattle.steps.proofs.Places.{entry-inside}

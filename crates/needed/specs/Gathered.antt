@@ -10,8 +10,8 @@ use Rattle.hgn.specs.Shop.{domain}
 use Rattle.hgn.specs.State.{State, literalHolds}
 use Rattle.hgn.specs.Network.{Waiting}
 use Rattle.hgn.specs.Run.{Move, act, use-method, methodAt}
-use Rattle.sheets.specs.declared.index.Span.{Span}
-use Rattle.sheets.specs.declared.position.Sheet.the-variants as Of
+use Rattle.spans.specs.declared.index.Span.{Span}
+use Rattle.reading.specs.declared.position.Sheet.the-variants as Of
 use Rattle.steps.specs.Entries.{spanRows}
 use Rattle.steps.specs.Entering.{Bounds, Walk}
 use Rattle.pruning.specs.Needed.{Needed, OnlyMaker, InEvery, weight, weights, Different}

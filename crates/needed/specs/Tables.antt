@@ -6,8 +6,8 @@ use lib.Dec.{eqb}
 use lib.ListN.{length, getD, set}
 use Rattle.hgn.specs.Meaning.{Literal, Domain, literals, nodeOf}
 use Rattle.hgn.specs.State.{mostAtoms, relevant}
-use Rattle.sheets.specs.declared.index.Span.{Span}
-use Rattle.sheets.specs.declared.position.Sheet.the-variants as Of
+use Rattle.spans.specs.declared.index.Span.{Span}
+use Rattle.reading.specs.declared.position.Sheet.the-variants as Of
 use Rattle.steps.specs.Entries.{spanRows}
 use Rattle.steps.specs.Entering.{Bounds}
 use Rattle.pruning.specs.Needed.{OnlyMaker}

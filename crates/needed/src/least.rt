@@ -1,11 +1,11 @@
 // The moves that every accepted trace makes, and the steps that they take.
 use crate::makers;
-use sheets::index;
-use sheets::index::Span;
-use sheets::position::Atom;
-use sheets::position::Sheet;
-use sheets::rows::word;
-use sheets::tag;
+use reading::position::Atom;
+use reading::position::Sheet;
+use reading::tag;
+use scan::rows::word;
+use spans::index;
+use spans::index::Span;
 use steps::enter;
 use steps::part;
 use steps::problem::Problem;

@@ -1,10 +1,10 @@
 // Which action alone makes a literal, which method alone has a node to which an action is relevant, and whether an action is relevant
 // to a waiting goal.
-use sheets::index;
-use sheets::index::Span;
-use sheets::position::Sheet;
-use sheets::rows::word;
-use sheets::tag;
+use reading::position::Sheet;
+use reading::tag;
+use scan::rows::word;
+use spans::index;
+use spans::index::Span;
 use steps::part;
 use steps::parts;
 use steps::waiting::Waiting;

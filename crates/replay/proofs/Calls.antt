@@ -20,7 +20,7 @@ use Rattle.hgn.proofs.Checked.{shop-of-order, order-of-trace, shop-counts}
 use Rattle.hgn.proofs.Numbers.{Numbered, trace-numbered}
 use Rattle.hgn.proofs.Replayed.{RunNumbered, run-numbered, inputs-passed}
 use Rattle.hgn.proofs.Traces.{trace-sizes}
-use Rattle.sheets.proofs.Lookup.{length-part}
+use Rattle.scan.proofs.Lookup.{length-part}
 use Rattle.sheets.specs.Answers as Check
 use Rattle.sheets.specs.declared.check.Verdict as Code
 use Rattle.replay.specs.Answers.{answerOf, runAnswer, actionMoves, Called}

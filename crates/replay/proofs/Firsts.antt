@@ -19,11 +19,11 @@ use Rattle.hgn.specs.Verdict.{passed}
 use Rattle.hgn.specs.Order as Order
 use Rattle.hgn.specs.Order.{orderRows}
 use Rattle.hgn.proofs.Checked.{order-count}
-use Rattle.sheets.specs.declared.position.Sheet.the-variants as Of
-use Rattle.sheets.specs.Index.{ends, span}
-use Rattle.sheets.proofs.Lookup.{rows-at}
-use Rattle.sheets.proofs.Spans.{by-test, ends-length, NodesFrom}
-use Rattle.sheets.proofs.Indexed.{order-length, order-whole, order-nodes-here, order-nodes-later, order-until, order-columns, order-indexable}
+use Rattle.reading.specs.declared.position.Sheet.the-variants as Of
+use Rattle.spans.specs.Index.{ends, span}
+use Rattle.scan.proofs.Lookup.{rows-at}
+use Rattle.spans.proofs.Spans.{by-test, ends-length, NodesFrom}
+use Rattle.spans.proofs.Indexed.{order-length, order-whole, order-nodes-here, order-nodes-later, order-until, order-columns, order-indexable}
 use Rattle.steps.specs.Entries.{orderOrigin, spanRows, waitingOf, listOf, entriesOf}
 use Rattle.steps.specs.Entering.{Bounds, Walk, entriesFrom}
 use Rattle.replay.specs.OrderTable.{OrderIndexed}

@@ -7,8 +7,8 @@ use mathlib.Core.List.{List, [], _∷_, _++_}
 use lib.ListN.{length, take, drop, length-append, length-drop}
 use lib.Seq.{take-append-seam, take-append-add}
 use Rattle.hgn.specs.Rows.{Row}
-use Rattle.sheets.specs.Index.{starts, ends}
-use Rattle.sheets.proofs.Spans.{ends-length}
+use Rattle.spans.specs.Index.{starts, ends}
+use Rattle.spans.proofs.Spans.{ends-length}
 
 module _ (rows : List Row) (n : ℕ) (size : length rows ≡ n) where
   module _ (before : List ℕ) {after : List ℕ} (e : after ≡ ends 0 rows ++ drop n before) where

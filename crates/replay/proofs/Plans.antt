@@ -14,7 +14,7 @@ use Rattle.hgn.specs.Run.{Step, Move, release, act, use-method, unknown, moveOf
 use Rattle.hgn.specs.Trace.{step}
 use Rattle.hgn.proofs.Steps.{Moved, by-release, by-action, by-method, took}
 use Rattle.hgn.proofs.Runs.{resumes, ended-empty}
-use Rattle.sheets.proofs.Spans.{by-test}
+use Rattle.spans.proofs.Spans.{by-test}
 use Rattle.replay.specs.Answers.{actionMoves}
 
 -- The action that a move takes, if it is one.

@@ -18,10 +18,10 @@ use Rattle.hgn.specs.Run.{Step, actionAt, refused, taken, stepped, prepend, cos
 use Rattle.hgn.specs.Shop.{domain, rowCount, actionCount, shopRows}
 use Rattle.hgn.specs.Trace.{step, stepsOf, stepCount}
 use Rattle.hgn.specs.Replay.{refusal, acceptance, reported}
-use Rattle.sheets.specs.Index.{starts, span}
-use Rattle.sheets.proofs.Lookup.{length-zipWith, getD-zipWith, length-part, getD-part, rows-at}
-use Rattle.sheets.proofs.Spans.{bounds, block-first, block-ends}
-use Rattle.sheets.proofs.Indexed.{shop-length, blocks-count, action-span}
+use Rattle.spans.specs.Index.{starts, span}
+use Rattle.scan.proofs.Lookup.{length-zipWith, getD-zipWith, length-part, getD-part, rows-at}
+use Rattle.spans.proofs.Spans.{bounds, block-first, block-ends}
+use Rattle.spans.proofs.Indexed.{shop-length, blocks-count, action-span}
 use Rattle.steps.specs.Entries.{listOf, entriesOf, waitingOf}
 use Rattle.steps.specs.Steps.{Indexed}
 use Rattle.replay.specs.Answers.{answerOf, runAnswer, endAnswer}

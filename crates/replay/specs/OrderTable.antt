@@ -5,7 +5,7 @@ use mathlib.Core.List.{List}
 use lib.ListN.{take}
 use Rattle.hgn.specs.Verdict.{passed}
 use Rattle.hgn.specs.Order.{rowCount, orderRows, checkOrder}
-use Rattle.sheets.specs.Index.{ends}
+use Rattle.spans.specs.Index.{ends}
 
 -- The sheets passed, and this table says where the order's parts end.
 pub record OrderIndexed (shop order endTable : List ℕ) : Type 0 where

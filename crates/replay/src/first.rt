@@ -1,11 +1,11 @@
 // The first record of a run, from the order sheet. Document 01, "How a derivation runs": at first the state is the atoms of the
 // order's 12 rows, and the waiting list holds the order's goals in listed order.
+use reading::position::Sheet;
+use reading::tag;
+use scan::rows::word;
 use sheets::check::Order;
-use sheets::index;
-use sheets::index::Span;
-use sheets::position::Sheet;
-use sheets::rows::word;
-use sheets::tag;
+use spans::index;
+use spans::index::Span;
 use steps::enter::Network;
 use steps::problem::Problem;
 use steps::state;

@@ -1,8 +1,8 @@
 // The run of a trace's steps. Document 01, "How a derivation runs".
 use crate::answer::Answer;
-use sheets::rows::Layout;
-use sheets::rows::Row;
-use sheets::rows::word;
+use scan::rows::Layout;
+use scan::rows::Row;
+use scan::rows::word;
 use steps::free::look;
 use steps::moves::Move;
 use steps::problem::Problem;

@@ -13,8 +13,8 @@ use Rattle.hgn.specs.Network as Network
 use Rattle.hgn.specs.Network.{free}
 use Rattle.hgn.specs.Run.{actionAt, methodAt}
 use Rattle.hgn.specs.Shop.{domain, actionCount, methodCount}
-use Rattle.sheets.specs.Index.{tagsOf, valuesOf}
-use Rattle.sheets.specs.declared.index.Span.{Span}
+use Rattle.spans.specs.Index.{tagsOf, valuesOf}
+use Rattle.spans.specs.declared.index.Span.{Span}
 use Rattle.steps.specs.Entries.{spanRows, waitingOf}
 use Rattle.steps.specs.Moves.{Known, knownOf}
 use Rattle.steps.specs.Steps.{Indexed}

@@ -15,12 +15,12 @@ use Rattle.hgn.specs.Meaning.{nodeOf, Literal}
 use Rattle.hgn.specs.State.{State, formulaHolds, relevant}
 use Rattle.hgn.specs.Network as Network
 use Rattle.hgn.specs.Network.{free, goalAt, noGoal}
-use Rattle.sheets.specs.Index as Index
-use Rattle.sheets.specs.Index.{columnPart, tagsOf, layoutOf}
-use Rattle.sheets.specs.declared.rows.Layout.{Layout}
-use Rattle.sheets.specs.declared.position.Sheet.the-variants as Of
-use Rattle.sheets.proofs.Spans.{span-empty}
-use Rattle.sheets.proofs.Laws.{told}
+use Rattle.spans.specs.Index as Index
+use Rattle.spans.specs.Index.{columnPart, tagsOf, layoutOf}
+use Rattle.scan.specs.declared.rows.Layout.{Layout}
+use Rattle.reading.specs.declared.position.Sheet.the-variants as Of
+use Rattle.spans.proofs.Spans.{span-empty}
+use Rattle.reading.proofs.Laws.{told}
 use Rattle.steps.specs.Entries.{spanRows, waitingOf, listOf, entriesOf, entryAt, noEntry}
 use Rattle.steps.specs.declared.waiting.Entry.{Entry}
 use Rattle.steps.specs.declared.waiting.Waiting.{Waiting}

@@ -21,7 +21,7 @@ use Rattle.pruning.specs.Pruned.{behind}
 use Rattle.hgn.specs.Network.{free}
 use Rattle.hgn.specs.Trace.{step}
 use Rattle.hgn.specs.Shop.{domain, actionCount, methodCount}
-use Rattle.sheets.proofs.Laws.{told}
+use Rattle.reading.proofs.Laws.{told}
 use Rattle.steps.specs.Entries.{listOf}
 use Rattle.steps.specs.Moves.{Known, knownOf}
 use Rattle.steps.specs.Steps as Spec

@@ -3,7 +3,7 @@
 use crate::found::Found;
 use crate::moves;
 use crate::trial;
-use sheets::rows::word;
+use scan::rows::word;
 use steps::free;
 use steps::moves::Move;
 use steps::problem::Problem;

@@ -1,7 +1,7 @@
 // The moves in the order in which they are tried, and the rows where a method's needs stand. Document 01, "How a derivation runs".
-use sheets::index::Span;
-use sheets::position::Sheet;
-use sheets::rows::word;
+use reading::position::Sheet;
+use scan::rows::word;
+use spans::index::Span;
 use steps::moves::Move;
 ghost use mathlib.Core.Path.{_≡_};
 ghost use Prim.Native.Nat.{_<_};

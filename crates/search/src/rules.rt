@@ -1,9 +1,9 @@
 // The steps that the search leaves out, one test for each reason. None stands on the first of the shortest traces.
 use crate::moves;
 use needed::makers;
-use sheets::index;
-use sheets::index::Span;
-use sheets::tag;
+use reading::tag;
+use spans::index;
+use spans::index::Span;
 use steps::free;
 use steps::literals;
 use steps::moves::Move;

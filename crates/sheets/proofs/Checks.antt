@@ -19,15 +19,15 @@ use Rattle.hgn.specs.Order as Order
 use Rattle.hgn.specs.Trace as Trace
 use Rattle.hgn.proofs.Numbers.{Numbered, rows-numbered}
 use Rattle.hgn.proofs.Checked.{ask-passed}
-use Rattle.sheets.specs.Reading.{positionOf}
-use Rattle.sheets.specs.Tally.{nothing, countedRows, foundIn, closed}
-use Rattle.sheets.specs.Scanned.{Scanned, questionsOf}
+use Rattle.reading.specs.Reading.{positionOf}
+use Rattle.scan.specs.Tally.{nothing, countedRows, foundIn, closed}
+use Rattle.scan.specs.Scanned.{Scanned, questionsOf}
 use Rattle.sheets.specs.Answers.{shopSizes, orderSizes, shopEnd, orderEnd}
-use Rattle.sheets.specs.declared.position.Sheet.{Sheet}
-use Rattle.sheets.specs.declared.position.Sheet.the-variants as Of
-use Rattle.sheets.specs.declared.rows.Scan.{Scan}
-use Rattle.sheets.specs.declared.tally.Tally.{Tally}
-use Rattle.sheets.proofs.Counts.{actions-counted, methods-counted, rules-counted}
+use Rattle.reading.specs.declared.position.Sheet.{Sheet}
+use Rattle.reading.specs.declared.position.Sheet.the-variants as Of
+use Rattle.scan.specs.declared.rows.Scan.{Scan}
+use Rattle.scan.specs.declared.tally.Tally.{Tally}
+use Rattle.scan.proofs.Counts.{actions-counted, methods-counted, rules-counted}
 
 -- After a pass over the rows: their refusal stands, or the questions after them follow.
 after-rows : (sheet : Sheet) (F : ℕ) (rows : List Row) (r : Scan) → Scanned sheet F rows r → Numbered (questionsOf sheet F rows)

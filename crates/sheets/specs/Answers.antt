@@ -9,10 +9,10 @@ use Rattle.hgn.specs.Network.{mostWaiting}
 use Rattle.hgn.specs.Shop.{mostActions, mostMethods}
 use Rattle.hgn.specs.Verdict as Hgn
 use Rattle.hgn.specs.Verdict.{passed, refused, ask, numberOf, placeOf}
-use Rattle.sheets.specs.Reading.{positionOf}
-use Rattle.sheets.specs.Tally.{closed, foundIn}
+use Rattle.reading.specs.Reading.{positionOf}
+use Rattle.scan.specs.Tally.{closed, foundIn}
 use Rattle.sheets.specs.declared.check.Verdict.{Verdict}
-use Rattle.sheets.specs.declared.rows.Scan.{Scan}
+use Rattle.scan.specs.declared.rows.Scan.{Scan}
 
 -- A check's answer: number and place, 0 and 0 when passed.
 abbrev pub answerOf : Hgn.Verdict → Verdict

@@ -1,6 +1,2 @@
--- How the code's types and answers stand for the definitions of `hgn`.
-pub mod Reading
-pub mod Tally
-pub mod Scanned
+-- How the code's answers stand for the definitions of `hgn`.
 pub mod Answers
-pub mod Index

@@ -1,8 +1,8 @@
 // The three checks: number and place of the first question that fails, or 0 and 0. Document 01, "Questions".
-use crate::position::Sheet;
-use crate::rows::Layout;
-use crate::rows::Scan;
-use crate::rows::word;
+use reading::position::Sheet;
+use scan::rows::Layout;
+use scan::rows::Scan;
+use scan::rows::word;
 ghost use mathlib.Core.Path.{_≡_};
 ghost use Rattle.hgn.specs.Shop.{checkShop};
 ghost use Rattle.hgn.specs.Order.{orderQuestions, checkOrder};

@@ -11,10 +11,10 @@ use Rattle.hgn.specs.Meaning as Meaning
 use Rattle.hgn.specs.Run as Run
 use Rattle.hgn.specs.Run.{firstMethod, actionAt}
 use Rattle.hgn.specs.Shop.{actionCount, methodCount, shopRows, domain}
-use Rattle.sheets.specs.Index.{span}
-use Rattle.sheets.specs.declared.position.Sheet.the-variants as Of
-use Rattle.sheets.proofs.Spans.{bounds, block-ends}
-use Rattle.sheets.proofs.Indexed.{blocks-count, action-span}
+use Rattle.spans.specs.Index.{span}
+use Rattle.reading.specs.declared.position.Sheet.the-variants as Of
+use Rattle.spans.proofs.Spans.{bounds, block-ends}
+use Rattle.spans.proofs.Indexed.{blocks-count, action-span}
 use Rattle.steps.specs.Entries.{spanRows}
 use Rattle.steps.specs.Moves.{Known, knownOf, moveRead}
 use Rattle.steps.specs.Steps.{Indexed}

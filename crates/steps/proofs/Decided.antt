@@ -18,8 +18,8 @@ use Rattle.hgn.specs.Run.{ask, refused, moveOf, actionAt, methodAt}
 use Rattle.hgn.specs.Shop.{domain, actionCount, methodCount}
 use Rattle.hgn.proofs.Waiting.{length-enter}
 use Rattle.hgn.proofs.Checked.{length-lastAfterAll}
-use Rattle.sheets.specs.declared.position.Sheet.the-variants as Of
-use Rattle.sheets.specs.declared.index.Span.{Span}
+use Rattle.reading.specs.declared.position.Sheet.the-variants as Of
+use Rattle.spans.specs.declared.index.Span.{Span}
 use Rattle.steps.specs.Entries.{spanRows, waitingOf, entriesOf, listOf}
 use Rattle.steps.specs.Seeing.{Sees}
 use Rattle.steps.specs.Entering.{Bounds, Walk, Counted}

@@ -12,7 +12,7 @@ use Rattle.hgn.specs.Network.{goalAt, enter, decomposed}
 use Rattle.hgn.specs.Run.{methodAt}
 use Rattle.hgn.specs.Shop.{domain}
 use Rattle.hgn.proofs.Embedding.{take-map, drop-map}
-use Rattle.sheets.specs.declared.position.Sheet.the-variants as Of
+use Rattle.reading.specs.declared.position.Sheet.the-variants as Of
 use Rattle.steps.specs.Entries.{nameOf, waitingOf, entriesOf, entryAt, listOf}
 use Rattle.steps.specs.Entering.{entriesFrom}
 use Rattle.steps.specs.declared.waiting.Name.{Name}

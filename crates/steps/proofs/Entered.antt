@@ -10,7 +10,7 @@ use borrow.Author.Tests.{eq-eqb, ne-eqb}
 use Rattle.hgn.specs.Meaning.{Node, nodeOf, lastAfterAll}
 use Rattle.hgn.specs.Network as Network
 use Rattle.hgn.specs.Network.{enter}
-use Rattle.sheets.specs.declared.position.Sheet.{Sheet}
+use Rattle.reading.specs.declared.position.Sheet.{Sheet}
 use Rattle.steps.specs.Entries.{orderOrigin, nameOf, spanRows, waitingOf}
 use Rattle.steps.specs.Entering.{Bounds, Walk, stop, next, entriesFrom}
 use Rattle.steps.specs.declared.waiting.Name.{Name}

@@ -8,7 +8,7 @@ use mathlib.Core.Bool.{Bool}
 use mathlib.Core.List.{List, [], _∷_, _++_, append-assoc, append-nil}
 use lib.ListN.{length, getD, set, take, drop, length-append, length-set, take-append-drop}
 use lib.Seq.{take-suc-set, drop-set-lt}
-use Rattle.sheets.specs.declared.position.Sheet.{Sheet}
+use Rattle.reading.specs.declared.position.Sheet.{Sheet}
 use Rattle.steps.specs.Entries.{Opened}
 use Rattle.steps.specs.Entering.{Bounds, Walk, entryOf, entriesFrom}
 use Rattle.steps.specs.declared.waiting.Name.{Name}

@@ -9,8 +9,8 @@ use borrow.Author.Tests.{ltb-true, ltb-false}
 use Rattle.hgn.specs.Lists.{parts}
 use Rattle.hgn.specs.Rows.{Row, has}
 use Rattle.hgn.specs.Tag as Tag
-use Rattle.sheets.specs.Index.{ends, span}
-use Rattle.sheets.proofs.Spans.{by-test, span-empty, part-end, NodesFrom, next-node}
+use Rattle.spans.specs.Index.{ends, span}
+use Rattle.spans.proofs.Spans.{by-test, span-empty, part-end, NodesFrom, next-node}
 use Rattle.steps.specs.Entering.{Bounds, Walk, stop, next}
 
 -- `table` has the ends of these rows, and `part` hands back the rows between bounds.

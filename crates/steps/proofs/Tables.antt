@@ -8,10 +8,10 @@ use lib.Seq.{getD-take}
 use Rattle.hgn.specs.Verdict.{passed}
 use Rattle.hgn.specs.Shop.{rowCount, actionCount, methodCount, shopRows, checkShop}
 use Rattle.hgn.proofs.Checked.{shop-of-order}
-use Rattle.sheets.specs.declared.position.Sheet.the-variants as Of
-use Rattle.sheets.specs.Index.{ends, span, Indexable, layoutOf}
-use Rattle.sheets.proofs.Spans.{bounds, read-start, ends-length}
-use Rattle.sheets.proofs.Indexed.{shop-length, blocks-count, shop-columns, shop-indexable}
+use Rattle.reading.specs.declared.position.Sheet.the-variants as Of
+use Rattle.spans.specs.Index.{ends, span, Indexable, layoutOf}
+use Rattle.spans.proofs.Spans.{bounds, read-start, ends-length}
+use Rattle.spans.proofs.Indexed.{shop-length, blocks-count, shop-columns, shop-indexable}
 use Rattle.steps.specs.Entries.{spanRows}
 use Rattle.steps.specs.Steps.{Indexed}
 

@@ -17,10 +17,10 @@ use Rattle.hgn.specs.Run.{noMethod, methodAt}
 use Rattle.hgn.specs.Shop.{actionCount, methodCount, shopRows, domain}
 use Rattle.hgn.proofs.Checked.{length-lastAfterAll, shop-counts, kept, method-nodes}
 use Rattle.hgn.proofs.Methods.{needs-first, goal-of-last}
-use Rattle.sheets.specs.declared.position.Sheet.the-variants as Of
-use Rattle.sheets.specs.Index.{starts, ends, span}
-use Rattle.sheets.proofs.Spans.{upto-upto, span-upto, bounds, block-first, block-ends, block-until, block-span, part-span, part-end, block-nodes}
-use Rattle.sheets.proofs.Indexed.{actions-length, methods-length, shop-length, blocks-in-order, blocks-count, method-span}
+use Rattle.reading.specs.declared.position.Sheet.the-variants as Of
+use Rattle.spans.specs.Index.{starts, ends, span}
+use Rattle.spans.proofs.Spans.{upto-upto, span-upto, bounds, block-first, block-ends, block-until, block-span, part-span, part-end, block-nodes}
+use Rattle.spans.proofs.Indexed.{actions-length, methods-length, shop-length, blocks-in-order, blocks-count, method-span}
 use Rattle.steps.specs.Entries.{spanRows}
 use Rattle.steps.specs.Entering.{Bounds, Walk}
 use Rattle.steps.specs.Steps.{Indexed}

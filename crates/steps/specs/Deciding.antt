@@ -12,7 +12,7 @@ use Rattle.hgn.specs.Network.{mostWaiting, goalAt, free, anyFree, released, dec
 use Rattle.hgn.specs.Run as Run
 use Rattle.hgn.specs.Run.{actionAt, methodAt, refused, taken, stepped}
 use Rattle.hgn.specs.Shop.{domain, actionCount, methodCount}
-use Rattle.sheets.specs.declared.index.Span.{Span}
+use Rattle.spans.specs.declared.index.Span.{Span}
 use Rattle.steps.specs.Entries.{spanRows, waitingOf}
 use Rattle.steps.specs.Moves.{Known}
 use Rattle.steps.specs.declared.free.Seen.{Seen}

@@ -7,7 +7,7 @@ use mathlib.Core.List.{List, [], _∷_, _++_}
 use mathlib.Core.Logic.{_≢_}
 use lib.Dec.{eqb}
 use lib.ListN.{length, getD}
-use Rattle.sheets.specs.declared.position.Sheet.{Sheet}
+use Rattle.reading.specs.declared.position.Sheet.{Sheet}
 use Rattle.steps.specs.declared.waiting.Name.{Name}
 use Rattle.steps.specs.declared.waiting.Entry.{Entry}
 use Rattle.steps.specs.declared.enter.Nodes.{Nodes}

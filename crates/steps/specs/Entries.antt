@@ -12,9 +12,9 @@ use Rattle.hgn.specs.Rows as Rows
 use Rattle.hgn.specs.Tag as Tag
 use Rattle.hgn.specs.Meaning.{nodeOf}
 use Rattle.hgn.specs.Network as Network
-use Rattle.sheets.specs.Index.{tagsOf, valuesOf}
-use Rattle.sheets.specs.declared.index.Span.{Span}
-use Rattle.sheets.specs.declared.position.Sheet.the-variants as Of
+use Rattle.spans.specs.Index.{tagsOf, valuesOf}
+use Rattle.spans.specs.declared.index.Span.{Span}
+use Rattle.reading.specs.declared.position.Sheet.the-variants as Of
 use Rattle.steps.specs.declared.waiting.Name.{Name}
 use Rattle.steps.specs.declared.waiting.Entry.{Entry}
 use Rattle.steps.specs.declared.waiting.Waiting.{Waiting}

@@ -13,7 +13,7 @@ use Rattle.hgn.specs.Run.{actionAt, methodAt}
 use Rattle.hgn.specs.Verdict.{passed}
 use Rattle.hgn.specs.Shop.{rowCount, actionCount, methodCount, shopRows}
 use Rattle.hgn.specs.Order.{checkOrder}
-use Rattle.sheets.specs.Index.{starts, ends}
+use Rattle.spans.specs.Index.{starts, ends}
 use Rattle.steps.specs.Entries.{listOf}
 use Rattle.steps.specs.declared.problem.Problem.{Problem}
 use Rattle.steps.specs.declared.problem.Stepped as Code

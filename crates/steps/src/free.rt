@@ -2,8 +2,8 @@
 use crate::waiting::Entry;
 use crate::waiting::Place;
 use crate::waiting::Waiting;
-use sheets::index;
-use sheets::tag;
+use reading::tag;
+use spans::index;
 ghost use mathlib.Core.Path.{_≡_};
 ghost use mathlib.Core.Bool.{_&&_};
 ghost use mathlib.Core.List.{List, zipWith};

@@ -2,8 +2,8 @@
 // A part is lent as its tags and its values. Document 01, "How a derivation runs".
 use crate::part;
 use crate::state;
-use sheets::position::Atom;
-use sheets::tag;
+use reading::position::Atom;
+use reading::tag;
 ghost use mathlib.Core.Path.{_≡_};
 ghost use mathlib.Core.List.{[], _∷_, zipWith};
 ghost use Rattle.hgn.specs.Lists.{any};

@@ -1,8 +1,8 @@
 // The tests on rows, asked of spans of the lent sheets. Document 01, "How a derivation runs".
 use crate::literals;
-use sheets::index;
-use sheets::index::Span;
-use sheets::tag;
+use reading::tag;
+use spans::index;
+use spans::index::Span;
 ghost use mathlib.Core.Path.{_≡_};
 ghost use Rattle.hgn.specs.Meaning.{literals, nodeOf};
 ghost use Rattle.hgn.specs.State.{allHold, formulaHolds, relevant};

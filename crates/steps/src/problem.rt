@@ -1,10 +1,10 @@
 // The record that a step moves forward: the atoms and the waiting goals. Document 01, "How a derivation runs".
 use crate::state;
 use crate::waiting::Waiting;
-use sheets::index;
-use sheets::index::Span;
-use sheets::position::Sheet;
-use sheets::tag;
+use reading::position::Sheet;
+use reading::tag;
+use spans::index;
+use spans::index::Span;
 ghost use mathlib.Core.Path.{_≡_};
 ghost use mathlib.Core.List.{List};
 ghost use Prim.Native.Nat.{ℕ, _≤_};

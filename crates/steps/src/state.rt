@@ -1,6 +1,6 @@
 // States, as a set of atoms. Document 01, "How a derivation runs".
 use crate::part;
-use sheets::position::Atom;
+use reading::position::Atom;
 ghost use mathlib.Core.Path.{_≡_};
 ghost use mathlib.Core.List.{zipWith};
 ghost use Rattle.hgn.specs.Rows.{row, valuesOf};

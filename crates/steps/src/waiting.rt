@@ -1,6 +1,6 @@
 // The waiting list: goals in the order of their places. Document 01, "How a derivation runs".
-use sheets::index::Span;
-use sheets::position::Sheet;
+use reading::position::Sheet;
+use spans::index::Span;
 ghost use mathlib.Core.Path.{_≡_};
 ghost use mathlib.Core.List.{[]};
 ghost use Prim.Native.Nat.{_+_, _<_, _≤_};

@@ -2,7 +2,7 @@
 use Prim.Native.Nat.{_-_}
 use native.Mathlib.Omega.{arith}
 use borrow.Author.Needs.{needs}
-use Rattle.sheets.proofs.Laws.{told}
+use Rattle.reading.proofs.Laws.{told}
 use Rattle.steps.proofs.NodeWalks.{ahead}
 use Rattle.needed.specs.Tables.{boundRelevant}
 use Rattle.needed.proofs.OnlyMethods.{Looked, looked-none, looked-found, looked-more, looked-all}

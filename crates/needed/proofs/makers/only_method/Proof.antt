@@ -2,7 +2,7 @@
 use Prim.Native.Nat.{_-_, _≤_}
 use native.Mathlib.Omega.{arith}
 use borrow.Author.Needs.{needs}
-use Rattle.sheets.proofs.Laws.{told}
+use Rattle.reading.proofs.Laws.{told}
 use Rattle.needed.proofs.Effects.{action-inside}
 use Rattle.needed.proofs.OnlyMethods.{FoundTo, hasNode, found-none, found-here, found-not, method-alone}
 use Rattle.needed.proofs.makers.only_method.Statement.{statement}

@@ -8,7 +8,7 @@ use borrow.Author.Needs.{needs}
 use Rattle.hgn.specs.Verdict.{passed}
 use Rattle.hgn.specs.Trace.{stepCount, checkTrace}
 use Rattle.hgn.proofs.Traces.{trace-sizes}
-use Rattle.sheets.proofs.Lookup.{length-part}
+use Rattle.scan.proofs.Lookup.{length-part}
 use Rattle.replay.specs.Answers.{actionMoves}
 use Rattle.replay.proofs.Calls.{sheet-refused, sheet-passes, room-short, run-stopped, run-accepted}
 use Rattle.replay.proofs.call.replay.Statement.{statement}

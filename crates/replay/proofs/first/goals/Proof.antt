@@ -8,7 +8,7 @@ use lib.ListN.{take, drop}
 use borrow.Author.Needs.{needs}
 use Rattle.hgn.specs.Order as Order
 use Rattle.hgn.proofs.Checked.{order-count, order-goals}
-use Rattle.sheets.specs.declared.position.Sheet.the-variants as Of
+use Rattle.reading.specs.declared.position.Sheet.the-variants as Of
 use Rattle.steps.specs.Entries.{entriesOf}
 use Rattle.steps.specs.Entering.{Walk, entriesFrom}
 use Rattle.steps.specs.declared.waiting.Entry.{Entry}

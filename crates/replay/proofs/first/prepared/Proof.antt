@@ -11,10 +11,10 @@ use Rattle.hgn.specs.Shop.{shopRows, rowCount, actionCount, methodCount, checkS
 use Rattle.hgn.specs.Order as Order
 use Rattle.hgn.specs.Order.{orderRows}
 use Rattle.hgn.proofs.Checked.{shop-of-order, shop-actions, shop-methods, shop-counts}
-use Rattle.sheets.specs.declared.position.Sheet.the-variants as Of
-use Rattle.sheets.specs.declared.rows.Layout.{Layout}
-use Rattle.sheets.specs.Index.{Indexable, layoutOf, starts, ends}
-use Rattle.sheets.proofs.Indexed.{shop-length, blocks-count, shop-indexable, shop-few, order-length, order-few, order-starts, order-indexable}
+use Rattle.reading.specs.declared.position.Sheet.the-variants as Of
+use Rattle.scan.specs.declared.rows.Layout.{Layout}
+use Rattle.spans.specs.Index.{Indexable, layoutOf, starts, ends}
+use Rattle.spans.proofs.Indexed.{shop-length, blocks-count, shop-indexable, shop-few, order-length, order-few, order-starts, order-indexable}
 use Rattle.steps.specs.Steps.{Indexed}
 use Rattle.replay.specs.OrderTable.{OrderIndexed}
 use Rattle.replay.proofs.Indexing.{ends-filled, ends-kept, starts-filled, starts-kept}

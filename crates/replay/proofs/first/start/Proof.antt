@@ -9,7 +9,7 @@ use Rattle.hgn.specs.Rows.{Row, row, valuesOf}
 use Rattle.hgn.specs.Meaning.{orderOf}
 use Rattle.hgn.specs.Order as Order
 use Rattle.hgn.specs.State.{State, assign}
-use Rattle.sheets.specs.declared.position.Sheet.the-variants as Of
+use Rattle.reading.specs.declared.position.Sheet.the-variants as Of
 use Rattle.steps.specs.Entries.{spanRows}
 use Rattle.replay.proofs.Firsts.{whole-rows}
 use Rattle.replay.proofs.first.start.Statement.{statement}

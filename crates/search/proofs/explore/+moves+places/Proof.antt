@@ -15,8 +15,8 @@ use Rattle.hgn.specs.Run.{Step}
 use Rattle.hgn.specs.Shop.{domain}
 use Rattle.hgn.specs.Trace.{step}
 use Rattle.hgn.proofs.Checked.{shop-actions, shop-methods, shop-counts}
-use Rattle.sheets.proofs.Laws.{told}
-use Rattle.sheets.proofs.rows.word.Reads as word
+use Rattle.reading.proofs.Laws.{told}
+use Rattle.scan.proofs.rows.word.Reads as word
 use Rattle.steps.specs.Entries.{listOf}
 use Rattle.steps.proofs.Goals.{list-length}
 use Rattle.steps.proofs.Tables.{shop-passes}

@@ -7,7 +7,7 @@ use lib.ListN.{length, length-map}
 use borrow.Author.Needs.{needs}
 use Rattle.hgn.specs.Shop.{domain}
 use Rattle.hgn.specs.Trace.{step}
-use Rattle.sheets.proofs.Laws.{told}
+use Rattle.reading.proofs.Laws.{told}
 use Rattle.steps.specs.Entries.{listOf}
 use Rattle.pruning.specs.Rules.{couldGoFirst}
 use Rattle.search.specs.Trials.{moveNumber}

@@ -4,7 +4,7 @@ use mathlib.Core.Path.{sym, ap, _∙_}
 use borrow.Author.Needs.{needs}
 use Rattle.hgn.specs.Order.{orderRows}
 use Rattle.sheets.specs.Answers.{answerOf}
-use Rattle.sheets.proofs.Laws.{told}
+use Rattle.reading.proofs.Laws.{told}
 use Rattle.sheets.proofs.Checks.{order-short, order-sizes-no, order-length-no, order-rest, order-sizes-rows}
 use Rattle.sheets.proofs.check.ask_order.Statement.{statement}
 use Rattle.sheets.proofs.check.ask_order.Tie as tie

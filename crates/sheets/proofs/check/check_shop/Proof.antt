@@ -4,7 +4,7 @@ use mathlib.Core.Path.{sym, ap, _∙_}
 use borrow.Author.Needs.{needs}
 use Rattle.hgn.specs.Shop.{shopRows}
 use Rattle.sheets.specs.Answers.{answerOf}
-use Rattle.sheets.proofs.Laws.{told}
+use Rattle.reading.proofs.Laws.{told}
 use Rattle.sheets.proofs.Checks.{shop-short, shop-sizes-no, shop-length-no, shop-rest, shop-sizes-rows}
 use Rattle.sheets.proofs.check.check_shop.Statement.{statement}
 use Rattle.sheets.proofs.check.check_shop.Tie as tie

@@ -2,7 +2,7 @@
 use mathlib.Core.Path.{sym, ap}
 use borrow.Author.Needs.{needs}
 use Rattle.sheets.specs.Answers.{answerOf}
-use Rattle.sheets.proofs.Laws.{told}
+use Rattle.reading.proofs.Laws.{told}
 use Rattle.sheets.proofs.Checks.{order-end-refused, order-end-17, order-end-18, order-end-passed}
 use Rattle.sheets.proofs.check.order_end.Statement.{statement}
 use Rattle.sheets.proofs.check.order_end.Tie as tie

@@ -2,7 +2,7 @@
 use mathlib.Core.Path.{sym, ap, _∙_}
 use borrow.Author.Needs.{needs}
 use Rattle.sheets.specs.Answers.{answerOf}
-use Rattle.sheets.proofs.Laws.{told}
+use Rattle.reading.proofs.Laws.{told}
 use Rattle.sheets.proofs.Checks.{shop-end-refused, shop-end-7, shop-end-actions, shop-end-methods, shop-end-found, found-9, found-none}
 use Rattle.sheets.proofs.check.shop_end.Statement.{statement}
 use Rattle.sheets.proofs.check.shop_end.Tie as tie

@@ -6,7 +6,7 @@ use lib.ListN.{length, drop, length-map}
 use borrow.Author.Needs.{needs}
 use Rattle.hgn.specs.Lists.{any}
 use Rattle.hgn.specs.Network.{free, anyFree}
-use Rattle.sheets.proofs.Laws.{told}
+use Rattle.reading.proofs.Laws.{told}
 use Rattle.steps.specs.Entries.{listOf}
 use Rattle.steps.proofs.Afters.{goals-none, goals-found, goals-on}
 use Rattle.steps.proofs.free.any_free.Statement.{statement}

@@ -6,7 +6,7 @@ use mathlib.Core.List.{List, zipWith}
 use mathlib.Core.Logic.{⊎-elim}
 use borrow.Author.Needs.{needs}
 use Rattle.hgn.specs.Rows.{row, valuesOf}
-use Rattle.sheets.proofs.Laws.{told}
+use Rattle.reading.proofs.Laws.{told}
 use Rattle.steps.specs.Entries.{spanRows}
 use Rattle.steps.proofs.Afters.{there, there-is, there-not, after-there, after-order, after-parent}
 use Rattle.steps.proofs.free.comes_after.Statement.{statement}

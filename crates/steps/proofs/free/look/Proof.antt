@@ -9,7 +9,7 @@ use borrow.Author.Needs.{needs}
 use Rattle.hgn.specs.Lists.{any}
 use Rattle.hgn.specs.Rows.{row, valuesOf}
 use Rattle.hgn.specs.Network.{comesAfter}
-use Rattle.sheets.proofs.Laws.{told}
+use Rattle.reading.proofs.Laws.{told}
 use Rattle.steps.specs.Entries.{spanRows, waitingOf, listOf, entryAt}
 use Rattle.steps.proofs.Places.{entry-inside, entry-past}
 use Rattle.steps.proofs.Afters.{goals-none, goals-found, goals-on, free-if, free-not}

@@ -3,7 +3,7 @@ use Prim.Native.Nat.{_-_}
 use mathlib.Core.Path.{_≡_, refl}
 use lib.ListN.{length, drop}
 use borrow.Author.Needs.{needs}
-use Rattle.sheets.proofs.Laws.{told}
+use Rattle.reading.proofs.Laws.{told}
 use Rattle.steps.proofs.Afters.{stands, stands-no-tag, stands-no-value, stands-found, stands-on}
 use Rattle.steps.proofs.free.stands_in_afters.Statement.{statement}
 use Rattle.steps.proofs.free.stands_in_afters.Tie as tie

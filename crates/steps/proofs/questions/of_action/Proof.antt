@@ -1,6 +1,6 @@
 -- Assumes nothing.
 use borrow.Author.Needs.{needs}
-use Rattle.sheets.proofs.Laws.{told}
+use Rattle.reading.proofs.Laws.{told}
 use Rattle.steps.proofs.questions.of_action.Statement.{statement}
 use Rattle.steps.proofs.questions.of_action.Tie as tie
 

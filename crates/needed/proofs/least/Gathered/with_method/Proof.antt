@@ -6,7 +6,7 @@ use borrow.Author.Needs.{needs}
 use Rattle.hgn.proofs.Checked.{shop-counts, shop-actions, shop-methods}
 use Rattle.steps.proofs.Tables.{shop-passes}
 use Rattle.steps.proofs.Entered.{nodeAt}
-use Rattle.sheets.specs.declared.position.Sheet.the-variants as Of
+use Rattle.reading.specs.declared.position.Sheet.the-variants as Of
 use Rattle.needed.proofs.Gathering.{method-added}
 use Rattle.needed.proofs.Brings.{method-needed}
 use Rattle.needed.proofs.least.Gathered.with_method.Statement.{statement}

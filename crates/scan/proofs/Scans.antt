@@ -1,0 +1,128 @@
+-- One pass over the rows: what is known before row `i`, and how a row leads on, is refused, or ends the pass. Assumes nothing.
+use Prim.Native.Nat.{ℕ, suc, _+_, _<_, _≤_}
+use native.Mathlib.Omega.{arith}
+use native.Mathlib.Numerals.{add-one}
+use mathlib.Core.Path.{_≡_, sym, ap, ap₂, _∙_, subst}
+use mathlib.Core.Bool.{Bool, true, false, cond}
+use mathlib.Core.List.{List, _∷_}
+use lib.Dec.{eqb}
+use lib.ListN.{length, getD, drop, drop-of-length-le}
+use lib.Seq.{drop-cons}
+use Rattle.hgn.specs.Lists.{among}
+use Rattle.hgn.specs.Rows.{Row, row}
+use Rattle.hgn.specs.Tag as Tag
+use Rattle.hgn.specs.Verdict as Verdict
+use Rattle.hgn.specs.Verdict.{rowQuestions, positionAfter}
+use Rattle.reading.specs.Reading.{followOf, firstQuestionOf, positionOf, next, refused, rowReading}
+use Rattle.scan.specs.Tally.{nothing, counted, countedRows, Within}
+use Rattle.scan.specs.Scanned.{questionsOf}
+use Rattle.reading.specs.declared.position.Sheet.{Sheet}
+use Rattle.reading.specs.declared.position.Sheet.the-variants.{Shop, Order}
+use Rattle.reading.specs.declared.position.Context.{Context}
+use Rattle.reading.specs.declared.position.Position.{Position}
+use Rattle.scan.specs.declared.tally.Tally.{Tally}
+use Rattle.scan.proofs.Counts.{within-nothing, within-counted}
+
+-- What the three questions of a row come to is what the questions of the rows from there on begin with.
+module _ (follow : Tag.Context → List ℕ) (q F i : ℕ) (p : Tag.Position) (t v : ℕ) (rest : List Row) where
+  pub row-next : (p′ : Tag.Position) → next p′ ≡ rowReading follow q F p t v
+      → (rowQuestions follow q F i p (row t v ∷ rest) ≡ rowQuestions follow q F (suc i) p′ rest) × (p′ ≡ Tag.advance p t v)
+  unfolding rowQuestions Verdict.ask rowReading
+  row-next p′ = go (among t (follow (p .context))) (Tag.inRange F p t v) (Tag.rises p t v)
+    where
+      go : (a b c : Bool) → next p′ ≡ cond a (cond b (cond c (next (Tag.advance p t v)) (refused (q + 2))) (refused (q + 1))) (refused q)
+          → (Verdict.ask a q i (Verdict.ask b (q + 1) i (Verdict.ask c (q + 2) i (rowQuestions follow q F (suc i) (Tag.advance p t v) rest)))
+          ≡ rowQuestions follow q F (suc i) p′ rest) × (p′ ≡ Tag.advance p t v)
+      go true true true e = let z : p′ ≡ Tag.advance p t v = cc in (ap (λ (x : Tag.Position). rowQuestions follow q F (suc i) x rest) (sym z), z)
+      go true true false e = let z : _≡_ {A = ℕ} 0 1 = cc in absurd (omega arith)
+      go true false c e = let z : _≡_ {A = ℕ} 0 1 = cc in absurd (omega arith)
+      go false b c e = let z : _≡_ {A = ℕ} 0 1 = cc in absurd (omega arith)
+
+  pub row-refused : (number : ℕ) → refused number ≡ rowReading follow q F p t v
+      → (rowQuestions follow q F i p (row t v ∷ rest) ≡ Verdict.refused number i) × (q ≤ number)
+  unfolding rowQuestions Verdict.ask rowReading
+  row-refused number = go (among t (follow (p .context))) (Tag.inRange F p t v) (Tag.rises p t v)
+    where
+      go : (a b c : Bool) → refused number ≡ cond a (cond b (cond c (next (Tag.advance p t v)) (refused (q + 2))) (refused (q + 1))) (refused q)
+          → (Verdict.ask a q i (Verdict.ask b (q + 1) i (Verdict.ask c (q + 2) i (rowQuestions follow q F (suc i) (Tag.advance p t v) rest)))
+          ≡ Verdict.refused number i) × (q ≤ number)
+      go true true true e = let z : _≡_ {A = ℕ} 0 1 = cc in absurd (omega arith)
+      go true true false e = let z : number ≡ q + 2 = cc in (ap (λ (k : ℕ). Verdict.refused k i) (sym z), omega arith)
+      go true false c e = let z : number ≡ q + 1 = cc in (ap (λ (k : ℕ). Verdict.refused k i) (sym z), omega arith)
+      go false b c e = let z : number ≡ q = cc in (ap (λ (k : ℕ). Verdict.refused k i) (sym z), omega arith)
+
+-- A row adds at most one node.
+nodes-advance : (p : Tag.Position) (t v : ℕ) → Tag.advance p t v .nodes ≤ suc (p .nodes)
+unfolding Tag.advance
+nodes-advance p t v = go (eqb t Tag.method) (eqb t Tag.node)
+  where
+    go : (a b : Bool) → cond a 0 (cond b (suc (p .nodes)) (p .nodes)) ≤ suc (p .nodes)
+    go true b = omega arith
+    go false true = omega arith
+    go false false = omega arith
+
+first≢0 : (sheet : Sheet) → 1 ≤ firstQuestionOf sheet
+first≢0 Shop = omega arith
+first≢0 Order = omega arith
+
+-- Rows 0 to `i` less 1 have passed and led to this position and these counts.
+pub record Going (sheet : Sheet) (F : ℕ) (rs : List Row) (i : ℕ) (p : Position) (t : Tally) : Type 0 where
+  pub inside : i ≤ length rs
+  pub questions : questionsOf sheet F rs ≡ rowQuestions (followOf sheet) (firstQuestionOf sheet) F i (positionOf p) (drop i rs)
+  pub position : positionAfter Tag.opening rs ≡ positionAfter (positionOf p) (drop i rs)
+  pub tally : countedRows nothing rs ≡ countedRows t (drop i rs)
+  pub nodes : p .nodes ≤ i
+  pub counts : Within i t
+
+module _ (sheet : Sheet) (F : ℕ) (rs : List Row) where
+  pub going-start : (p : Position) (t : Tally) → positionOf p ≡ Tag.opening → t ≡ nothing → Going sheet F rs 0 p t
+  going-start p t e d = record {
+    inside = omega arith;
+    questions = ap (λ (x : Tag.Position). rowQuestions (followOf sheet) (firstQuestionOf sheet) F 0 x rs) (sym e);
+    position = ap (λ (x : Tag.Position). positionAfter x rs) (sym e);
+    tally = ap (λ (x : Tally). countedRows x rs) (sym d);
+    nodes = omega (arith, ap (λ (x : Tag.Position). x .nodes) e);
+    counts = subst (Within 0) (sym d) within-nothing;
+  }
+
+  module _ (i : ℕ) (p : Position) (t : Tally) (g : Going sheet F rs i p t) (h : i < length rs) (tag value : ℕ) (at : getD rs i (row 0 0) ≡ row tag value) where
+    rest : drop i rs ≡ row tag value ∷ drop (i + 1) rs
+    rest = drop-cons rs i (row 0 0) h ∙ ap₂ {C = List Row} (λ r k. r ∷ drop k rs) at (sym (add-one i))
+
+    pub going-next : (p′ : Position) (t′ : Tally) → next (positionOf p′) ≡ rowReading (followOf sheet) (firstQuestionOf sheet) F (positionOf p) tag value
+        → t′ ≡ counted t tag → Going sheet F rs (i + 1) p′ t′
+    unfolding positionAfter countedRows
+    going-next p′ t′ e d =
+        let r = row-next (followOf sheet) (firstQuestionOf sheet) F i (positionOf p) tag value (drop (i + 1) rs) (positionOf p′) e in
+        record {
+          inside = omega arith;
+          questions =
+              g .questions
+              ∙ ap (rowQuestions (followOf sheet) (firstQuestionOf sheet) F i (positionOf p)) rest
+              ∙ r .0
+              ∙ ap (λ (k : ℕ). rowQuestions (followOf sheet) (firstQuestionOf sheet) F k (positionOf p′) (drop (i + 1) rs)) (sym (add-one i));
+          position =
+              g .position
+              ∙ ap (positionAfter (positionOf p)) rest
+              ∙ ap (λ (x : Tag.Position). positionAfter x (drop (i + 1) rs)) (sym (r .1));
+          tally = g .tally ∙ ap (countedRows t) rest ∙ ap (λ (x : Tally). countedRows x (drop (i + 1) rs)) (sym d);
+          nodes =
+              omega (arith, nodes-advance (positionOf p) tag value, ap (λ (x : Tag.Position). x .nodes) (r .1), g .nodes);
+          counts = subst (λ (k : ℕ). Within k t′) (sym (add-one i)) (subst (Within (suc i)) (sym d) (within-counted i t tag (g .counts)));
+        }
+
+    pub going-refused : (number : ℕ) → refused number ≡ rowReading (followOf sheet) (firstQuestionOf sheet) F (positionOf p) tag value
+        → (questionsOf sheet F rs ≡ Verdict.refused number i) × (1 ≤ number)
+    going-refused number e =
+        let r = row-refused (followOf sheet) (firstQuestionOf sheet) F i (positionOf p) tag value (drop (i + 1) rs) number e in
+        (g .questions ∙ ap (rowQuestions (followOf sheet) (firstQuestionOf sheet) F i (positionOf p)) rest ∙ r .0, omega (arith, first≢0 sheet, r .1))
+
+  pub going-end : (i : ℕ) (p : Position) (t : Tally) → Going sheet F rs i p t → length rs ≤ i
+      → (questionsOf sheet F rs ≡ Verdict.passed) × (positionOf p ≡ positionAfter Tag.opening rs) × (t ≡ countedRows nothing rs)
+  unfolding rowQuestions positionAfter countedRows
+  going-end i p t g h =
+      let e = drop-of-length-le rs h in (
+        g .questions ∙ ap (rowQuestions (followOf sheet) (firstQuestionOf sheet) F i (positionOf p)) e,
+        sym (g .position ∙ ap (positionAfter (positionOf p)) e),
+        sym (g .tally ∙ ap (countedRows t) e),
+      )

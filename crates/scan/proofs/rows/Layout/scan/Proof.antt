@@ -1,0 +1,152 @@
+-- Before each row the rows passed have led to the position and the counts at hand (`Going`). Assumes nothing.
+use Prim.Native.Nat.{_≤_, _-_}
+use native.Mathlib.Omega.{arith}
+use mathlib.Core.Path.{sym, ap, ap₂, _∙_}
+use borrow.Author.Needs.{needs}
+use Rattle.hgn.specs.Rows.{row, rowsOf}
+use Rattle.hgn.specs.Verdict.{numberOf, placeOf}
+use Rattle.reading.specs.Reading.{contextOf, readingOf}
+use Rattle.reading.proofs.Laws.{told, same-next}
+use Rattle.reading.proofs.Groups.{going-on-passes}
+use Rattle.scan.proofs.GoneOn.{going-on-counts}
+use Rattle.scan.proofs.Lookup.{rows-length, rows-at}
+use Rattle.scan.proofs.Scans.{Going, going-start, going-next, going-refused, going-end}
+use Rattle.scan.proofs.Counts.{within-small}
+use Rattle.scan.proofs.rows.Layout.scan.Statement.{statement}
+use Rattle.scan.proofs.rows.Layout.scan.Tie as tie
+
+abbrev Inv-loop : tie.InvT-loop
+Inv-loop self words sheet atoms rows position₀ tally₀ i₀ position tally i =
+    (i ≤ self .rows) × Going sheet atoms (rowsOf (self .sizes) (self .rows) words) i position tally
+
+abbrev μ-loop : tie.MeasureT-loop
+μ-loop self words sheet atoms rows position₀ tally₀ i₀ position tally i = self .rows - i
+
+opening-requires : tie.Need-opening-requires Inv-loop μ-loop
+opening-requires c κs = search needs
+
+nothing-requires : tie.Need-nothing-requires Inv-loop μ-loop
+nothing-requires c κs = search needs
+
+loop-holds : tie.Need-loop-holds Inv-loop μ-loop
+loop-holds c = (omega arith, going-start _ _ _ _ _ (c .before .opening .ensures) (c .nothing .ensures))
+
+add-i : tie.Need-add-i Inv-loop μ-loop
+add-i c = omega arith
+
+tag-requires : tie.Need-tag-requires Inv-loop μ-loop
+tag-requires c κs = omega arith
+
+value-requires : tie.Need-value-requires Inv-loop μ-loop
+value-requires c κs = omega arith
+
+goes-on-requires : tie.Need-goes-on-requires Inv-loop μ-loop
+goes-on-requires c κs = search needs
+
+gone-on-requires : tie.Need-gone-on-requires Inv-loop μ-loop
+gone-on-requires c κs = within-small _ _ (omega arith) (c .before .before .before .before .before .loop .inv .1 .counts)
+
+above-requires : tie.Need-above-requires Inv-loop μ-loop
+above-requires c κs = search needs
+
+loop-less : tie.Need-loop-less Inv-loop μ-loop
+loop-less c = omega arith
+
+loop-again : tie.Need-loop-again Inv-loop μ-loop
+loop-again c =
+    let b = c .before .before .before .before .before .before in
+    let a = b .before .before .before .before .before .args in
+    let f = b .before .before .before .before .before .pre .0 in
+    let p = b .before .loop .position in (
+      omega arith,
+      going-next (a .sheet) (a .atoms) (rowsOf (a .self .sizes) (a .self .rows) (a .words .now)) (b .before .loop .i) p (b .before .loop .tally)
+          (b .before .loop .inv .1) (rw (rows-length (a .self .sizes) (a .self .rows) (a .words .now) f) (b .loop-test .taken))
+          _ _ (rows-at (a .self .sizes) (a .self .rows) (a .words .now) f (b .before .loop .i) (b .loop-test .taken)
+          ∙ ap₂ row (sym (c .before .before .before .before .before .tag .ensures)) (sym (c .before .before .before .before .value .ensures)))
+          _ _ (same-next (c .above .ensures)
+          ∙ going-on-passes (a .atoms) (p .least) (p .nodes) _ (a .sheet) (contextOf (p .context)) _ (told (c .before .before .before .goes-on .ensures) (c .before .before .if1 .taken)))
+          (c .before .gone-on .ensures ∙ going-on-counts (a .atoms) (p .least) (p .nodes) _ _ (contextOf (p .context)) _ (told (c .before .before .before .goes-on .ensures) (c .before .before .if1 .taken))),
+    )
+
+counted-requires : tie.Need-counted-requires Inv-loop μ-loop
+counted-requires c κs = within-small _ _ (omega arith) (c .before .before .before .before .before .loop .inv .1 .counts)
+
+read-requires : tie.Need-read-requires Inv-loop μ-loop
+read-requires c κs = omega (arith, c .before .before .before .before .before .before .loop .inv .1 .nodes)
+
+enum-known-reading : tie.Need-enum-known-reading Inv-loop μ-loop
+enum-known-reading c = search needs
+
+loop-less-2 : tie.Need-loop-less-2 Inv-loop μ-loop
+loop-less-2 c = omega arith
+
+loop-again-2 : tie.Need-loop-again-2 Inv-loop μ-loop
+loop-again-2 c =
+    let b = c .before .before .before .before .before .before .before .before .before in
+    let a = b .before .before .before .before .before .args in
+    let f = b .before .before .before .before .before .pre .0 in (
+      omega arith,
+      going-next (a .sheet) (a .atoms) (rowsOf (a .self .sizes) (a .self .rows) (a .words .now)) (b .before .loop .i) (b .before .loop .position) (b .before .loop .tally)
+          (b .before .loop .inv .1) (rw (rows-length (a .self .sizes) (a .self .rows) (a .words .now) f) (b .loop-test .taken))
+          _ _ (rows-at (a .self .sizes) (a .self .rows) (a .words .now) f (b .before .loop .i) (b .loop-test .taken)
+          ∙ ap₂ row (sym (c .before .before .before .before .before .before .before .before .tag .ensures)) (sym (c .before .before .before .before .before .before .before .value .ensures)))
+          _ _ (ap readingOf (sym (c .before .reading .given .1)) ∙ c .before .before .before .read .ensures) (c .before .before .before .before .counted .ensures),
+    )
+
+enum-known-reading-2 : tie.Need-enum-known-reading-2 Inv-loop μ-loop
+enum-known-reading-2 c = search needs
+
+cast-place : tie.Need-cast-place Inv-loop μ-loop
+cast-place c = omega arith
+
+returns : tie.Need-returns Inv-loop μ-loop
+returns c =
+    let b = c .before .before .before .before .before .before .before .before .before in
+    let a = b .before .before .before .before .before .args in
+    let f = b .before .before .before .before .before .pre .0 in
+    let r = going-refused (a .sheet) (a .atoms) (rowsOf (a .self .sizes) (a .self .rows) (a .words .now)) (b .before .loop .i) (b .before .loop .position) (b .before .loop .tally)
+    (b .before .loop .inv .1) (rw (rows-length (a .self .sizes) (a .self .rows) (a .words .now) f) (b .loop-test .taken))
+    _ _ (rows-at (a .self .sizes) (a .self .rows) (a .words .now) f (b .before .loop .i) (b .loop-test .taken)
+    ∙ ap₂ row (sym (c .before .before .before .before .before .before .before .before .tag .ensures)) (sym (c .before .before .before .before .before .before .before .value .ensures)))
+    (c .before .reading2 .given .0 .0) (ap readingOf (sym (c .before .reading2 .given .1)) ∙ c .before .before .before .read .ensures) in
+    record {
+      number = ap numberOf (sym (r .0));
+      place = ap placeOf (sym (r .0));
+      position = λ e. absurd (omega (arith, r .1));
+      tally = λ e. absurd (omega (arith, r .1));
+    }
+
+returns-2 : tie.Need-returns-2 Inv-loop μ-loop
+returns-2 c =
+    let a = c .before .before .before .before .before .args in
+    let f = c .before .before .before .before .before .pre .0 in
+    let r = going-end (a .sheet) (a .atoms) (rowsOf (a .self .sizes) (a .self .rows) (a .words .now)) _ _ _ (c .before .loop .inv .1)
+    (rw (rows-length (a .self .sizes) (a .self .rows) (a .words .now) f) (c .loop-test .left)) in
+    record { number = ap numberOf (sym (r .0)); place = ap placeOf (sym (r .0)); position = λ e. r .1; tally = λ e. r .2 }
+
+pub scan-spec : {M : Type 1} → statement M
+scan-spec =
+    tie.close
+    (tie.spec
+    Inv-loop
+    μ-loop
+    opening-requires
+    nothing-requires
+    loop-holds
+    add-i
+    tag-requires
+    value-requires
+    goes-on-requires
+    gone-on-requires
+    above-requires
+    loop-less
+    loop-again
+    counted-requires
+    read-requires
+    enum-known-reading
+    loop-less-2
+    loop-again-2
+    enum-known-reading-2
+    cast-place
+    returns
+    returns-2)

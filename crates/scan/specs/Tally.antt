@@ -1,0 +1,108 @@
+-- What questions 8 and 9 of document 01, "Questions", count, row after row. That these counts are those of the definitions is proved in `proofs/Counts.antt`.
+use Prim.Native.Nat.{ℕ, suc, _-_, _≤_}
+use mathlib.Core.Bool.{Bool, true, false, not, cond, _&&_}
+use mathlib.Core.List.{List, [], _∷_}
+use lib.Dec.{eqb, leb}
+use Rattle.hgn.specs.Tag as Tag
+use Rattle.hgn.specs.Rows.{Row}
+use Rattle.hgn.specs.Shop.{mostNodes}
+use Rattle.hgn.specs.Verdict.{Verdict, passed, refused}
+use Rattle.scan.specs.declared.tally.Tally.{Tally}
+
+abbrev pub nothing : Tally
+nothing = record { actions = 0; methods = 0; opened = false; nodes = 0; alternatives = 0; afters = 0; found = false; first = 0 }
+
+-- The open method is within its node rules.
+unfoldable pub withinRules : Tally → Bool
+withinRules t = leb 1 (t .nodes) && leb (t .nodes) mostNodes && eqb (t .alternatives) 1 && eqb (t .afters) 0
+
+-- A method outside its node rules is noted, if it is the first.
+unfoldable pub noted : Tally → Tally
+noted t = record {
+  actions = t .actions;
+  methods = t .methods;
+  opened = t .opened;
+  nodes = t .nodes;
+  alternatives = t .alternatives;
+  afters = t .afters;
+  found = true;
+  first = t .methods - 1;
+}
+
+-- The open method ends here.
+unfoldable pub closed : Tally → Tally
+closed t = cond (t .opened && not (t .found) && not (withinRules t) && leb 1 (t .methods)) (noted t) t
+
+-- An action begins.
+unfoldable pub withAction : Tally → Tally
+withAction t = record {
+  actions = suc (t .actions);
+  methods = t .methods;
+  opened = false;
+  nodes = t .nodes;
+  alternatives = t .alternatives;
+  afters = t .afters;
+  found = t .found;
+  first = t .first;
+}
+
+-- A method begins.
+unfoldable pub withMethod : Tally → Tally
+withMethod t = record {
+  actions = t .actions;
+  methods = suc (t .methods);
+  opened = true;
+  nodes = 0;
+  alternatives = 0;
+  afters = 0;
+  found = t .found;
+  first = t .first;
+}
+
+-- The counts of the open method.
+unfoldable pub withCounts : Tally → ℕ → ℕ → ℕ → Tally
+withCounts t nodes alternatives afters = record {
+  actions = t .actions;
+  methods = t .methods;
+  opened = t .opened;
+  nodes = nodes;
+  alternatives = alternatives;
+  afters = afters;
+  found = t .found;
+  first = t .first;
+}
+
+-- The counts after one more row with this tag.
+unfoldable pub counted : Tally → ℕ → Tally
+counted t tag =
+    cond (eqb tag Tag.action) (withAction (closed t))
+    (cond (eqb tag Tag.method) (withMethod (closed t))
+    (cond (eqb tag Tag.node) (withCounts t (suc (t .nodes)) 0 0)
+    (cond (eqb tag Tag.alternative) (withCounts t (t .nodes) (suc (t .alternatives)) (t .afters))
+    (cond (eqb tag Tag.after) (withCounts t (t .nodes) (t .alternatives) (suc (t .afters)))
+    t))))
+
+-- The counts after a row that goes on in its group: only an 11 row counts.
+unfoldable pub goneOn : Tally → ℕ → Tally
+goneOn t tag = cond (eqb tag Tag.after) (withCounts t (t .nodes) (t .alternatives) (suc (t .afters))) t
+
+-- The counts after these rows.
+unfoldable pub countedRows : Tally → List Row → Tally
+countedRows t [] = t
+countedRows t (r ∷ rs) = countedRows (counted t (r .tag)) rs
+
+-- The answer to question 9, once the last method is closed: 9, at the number of the first method that was noted.
+unfoldable pub foundIn : Tally → Verdict
+foundIn t = cond (t .found) (refused 9 (t .first)) passed
+
+-- Every count is at most `n`.
+pub record Within (n : ℕ) (t : Tally) : Type 0 where
+  pub actions : t .actions ≤ n
+  pub methods : t .methods ≤ n
+  pub nodes : t .nodes ≤ n
+  pub alternatives : t .alternatives ≤ n
+  pub afters : t .afters ≤ n
+
+-- One more of anything fits a 16-bit word.
+abbrev pub Small : Tally → Type 0
+Small t = Within 65534 t

@@ -1,0 +1,103 @@
+// The rows of a sheet, read in one pass. Document 01, "The three sheets".
+use crate::tally::Tally;
+use reading::position::Position;
+use reading::position::Reading;
+use reading::position::Sheet;
+ghost use mathlib.Core.Path.{_≡_};
+ghost use Prim.Native.Nat.{_+_, _<_, _≤_};
+ghost use lib.ListN.{length, getD};
+ghost use Rattle.hgn.specs.Rows.{rowsOf};
+ghost use Rattle.scan.specs.Scanned.{Scanned};
+
+// A row by its number, from 0.
+pub struct Row(pub usize);
+
+// Where a sheet's rows stand: behind its sizes, first all tags, then all values.
+pub struct Layout {
+    pub sizes: usize,
+    pub rows: usize,
+}
+
+// What one pass over the rows comes to: 0 with the position at the end and what was counted, or the first question that fails and
+// its row; then position and counts are left free.
+pub struct Scan {
+    pub number: u16,
+    pub place: u16,
+    pub position: Position,
+    pub tally: Tally,
+}
+
+// A word of a sheet; 0 past its end.
+pub fn word(words: &[u16], at: usize) -> u16
+    ensures { λ r. ⌜ r ≡ getD (now (words .entry)) at 0 ⌝ }
+{
+    if at < words.len() {
+        return words[at];
+    }
+    0
+}
+
+impl Layout {
+    // The most rows of a sheet.
+    pub const MOST_ROWS: u16 = 4000;
+
+    pub fn tag(self, words: &[u16], row: Row) -> u16
+        requires { ⌜ (row .0 < self .rows) × (self .sizes + (self .rows + self .rows) ≤ length (now words)) ⌝ }
+        ensures { λ r. ⌜ r ≡ getD (now (words .entry)) (self .sizes + row .0) 0 ⌝ }
+    {
+        let at = self.sizes + row.0;
+        words[at]
+    }
+
+    pub fn value(self, words: &[u16], row: Row) -> u16
+        requires { ⌜ (row .0 < self .rows) × (self .sizes + (self .rows + self .rows) ≤ length (now words)) ⌝ }
+        ensures { λ r. ⌜ r ≡ getD (now (words .entry)) (self .sizes + self .rows + row .0) 0 ⌝ }
+    {
+        let at = self.sizes + self.rows + row.0;
+        words[at]
+    }
+
+    // The questions of every row, in order.
+    pub fn scan(self, words: &[u16], sheet: Sheet, atoms: u16) -> Scan
+        requires { ⌜ (self .sizes + (self .rows + self .rows) ≤ length (now words)) × (self .rows ≤ 4000) ⌝ }
+        ensures { λ r. ⌜ Scanned sheet atoms (rowsOf (self .sizes) (self .rows) (now (words .entry))) r ⌝ }
+    {
+        let rows = self.rows;
+        let mut position = Position::opening();
+        let mut tally = Tally::nothing();
+        let mut i = 0;
+        while i < rows {
+            let row = i;
+            i += 1;
+            let tag = self.tag(words, Row(row));
+            let value = self.value(words, Row(row));
+            if position.goes_on(atoms, tag, value) {
+                tally = tally.gone_on(tag);
+                position = position.above(value);
+            } else {
+                tally = tally.counted(tag);
+                let reading = position.read(sheet, atoms, tag, value);
+                match reading {
+                    Reading::Next(next) => {
+                        position = next;
+                    }
+                    Reading::Refused(number) => {
+                        let place = row as u16;
+                        return Scan {
+                            number: number,
+                            place: place,
+                            position: position,
+                            tally: tally,
+                        };
+                    }
+                }
+            }
+        }
+        Scan {
+            number: 0,
+            place: 0,
+            position: position,
+            tally: tally,
+        }
+    }
+}

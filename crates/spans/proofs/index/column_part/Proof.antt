@@ -1,0 +1,30 @@
+-- The part is made where the sheet has the rows, by the definition's three tests. Assumes nothing.
+use mathlib.Core.Path.{sym}
+use mathlib.Core.Logic.{⊎-elim}
+use borrow.Author.Needs.{needs}
+use Rattle.spans.specs.Index.{span}
+use Rattle.spans.proofs.Spans.{column-inside, column-turned, column-past, column-short}
+use Rattle.spans.proofs.index.column_part.Statement.{statement}
+use Rattle.spans.proofs.index.column_part.Tie as tie
+
+pub column-part-spec : {M : Type 1} → statement M
+unfolding span
+column-part-spec =
+    tie.close
+    (tie.spec
+    (λ c. search needs)
+    (λ c. search needs)
+    (λ c. search needs)
+    (λ c. search needs)
+    (λ c. search needs)
+    (λ c. search needs)
+    (λ c. search needs)
+    (λ c. search needs)
+    (λ c. sym (column-inside _ _ _ _ _ (c .before .before .before .before .before .before .if1 .taken) (c .before .before .before .before .if2 .taken) (c .before .if3 .taken)))
+    (λ c. search needs)
+    (λ c. search needs)
+    (λ c. search needs)
+    (λ c.
+    ⊎-elim (λ w. sym (column-short _ _ _ _ _ (w .0 .taken) (w .2 .taken) (w .5 .left)))
+    (⊎-elim (λ w. sym (column-past _ _ _ _ _ (w .0 .taken) (w .2 .left))) (λ w. sym (column-turned _ _ _ _ _ (w .left))))
+    (c .before .if1 .came)))

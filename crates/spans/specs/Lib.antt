@@ -1,0 +1,2 @@
+-- Where the parts of a sheet stand, by the definitions of `hgn`.
+pub mod Index
