@@ -1,9 +1,9 @@
 // The five public calls for a caller of C: plain names, and each answer written where the caller lends room for it. Document 01,
 // "Questions". `include/liropuva.h` declares them.
+use formulas::state::State;
 use replay::call::replay;
 use search::call::search;
 use sheets::check;
-use steps::state::State;
 ghost use mathlib.Core.Path.{_≡_};
 ghost use Rattle.hgn.specs.Shop.{checkShop};
 ghost use Rattle.hgn.specs.Order.{checkOrder};

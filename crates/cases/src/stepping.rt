@@ -3,13 +3,13 @@
 use crate::line;
 use display::forward;
 use display::forward::Shown;
+use network::waiting::Place;
 use replay::first;
 use scan::rows::Layout;
 use scan::rows::word;
 use sheets::check::Shop;
 use sheets::check::check_order;
 use steps::problem::Problem;
-use steps::waiting::Place;
 ghost use mathlib.Core.Path.{_≡_};
 ghost use Prim.Native.Nat.{suc, _+_, _≤_, _<_};
 ghost use lib.ListN.{length};
@@ -17,7 +17,7 @@ ghost use Rattle.hgn.specs.Rows.{mostRows};
 ghost use Rattle.hgn.specs.Shop.{mostActions, mostMethods};
 ghost use Rattle.hgn.specs.Order.{checkOrder};
 ghost use Rattle.hgn.specs.Verdict.{passed};
-ghost use Rattle.steps.specs.Steps.{Indexed};
+ghost use Rattle.network.specs.Tables.{Indexed};
 
 fn write_shown(shown: Shown) {
     let problem = shown.problem;

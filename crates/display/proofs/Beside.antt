@@ -32,13 +32,13 @@ use denote.Struct.Laws as LL
 use denote.Triple.Walked.{Stay, stay-none, stay-none-slice, Goes, goes-none, goes-none-slice}
 use denote.Exit.{yes}
 use Rattle.hgn.specs.Run.{Step}
-use Rattle.steps.specs.Steps.{Indexed}
+use Rattle.network.specs.Tables.{Indexed}
 use Rattle.steps.specs.declared.problem.Problem.{Problem}
-use Rattle.steps.specs.declared.waiting.Place.{Place}
+use Rattle.network.specs.declared.waiting.Place.{Place}
 use Rattle.steps.proofs.problem.Problem as P
 use Rattle.steps.proofs.problem.Problem.Laws as P′
-use Rattle.steps.proofs.waiting.Place as L
-use Rattle.steps.proofs.waiting.Place.Laws as L′
+use Rattle.network.proofs.waiting.Place as L
+use Rattle.network.proofs.waiting.Place.Laws as L′
 use Rattle.display.specs.Forward.{Forward}
 
 abbrev pub Words : Type 0

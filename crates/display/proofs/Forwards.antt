@@ -7,7 +7,7 @@ use lib.Dec.{eqb}
 use borrow.Author.Tests.{eqb-true, eqb-false}
 use Rattle.hgn.specs.Run as Run
 use Rattle.hgn.specs.Run.{Step, refused, taken}
-use Rattle.steps.specs.Entries.{listOf}
+use Rattle.network.specs.Entries.{listOf}
 use Rattle.steps.specs.Steps.{Stepped, doneOf}
 use Rattle.steps.specs.declared.problem.Problem.{Problem}
 use Rattle.steps.specs.declared.problem.Stepped as Code

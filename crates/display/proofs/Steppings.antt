@@ -13,7 +13,7 @@ use Rattle.hgn.specs.Trace.{stepCount, stepsOf}
 use Rattle.hgn.specs.Replay.{reported, replay}
 use Rattle.hgn.proofs.Runs.{resumed, run-cons}
 use Rattle.hgn.proofs.Replayed.{RunNumbered, run-numbered, inputs-passed}
-use Rattle.steps.specs.Entries.{listOf}
+use Rattle.network.specs.Entries.{listOf}
 use Rattle.steps.specs.declared.problem.Problem.{Problem}
 use Rattle.replay.specs.Answers.{actionMoves}
 use Rattle.replay.specs.Demands.{replayedOf}

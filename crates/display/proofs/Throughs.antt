@@ -22,9 +22,9 @@ use Rattle.hgn.proofs.Runs.{resumed, run-cons}
 use Rattle.hgn.proofs.Replayed.{RunNumbered, run-numbered, inputs-passed}
 use Rattle.hgn.proofs.Traces.{trace-sizes}
 use Rattle.scan.proofs.Lookup.{length-part}
-use Rattle.steps.specs.Entries.{listOf}
+use Rattle.network.specs.Entries.{listOf}
 use Rattle.steps.specs.declared.problem.Problem.{Problem}
-use Rattle.steps.proofs.Goals.{list-length}
+use Rattle.network.proofs.Goals.{list-length}
 use Rattle.replay.specs.Answers.{Called}
 use Rattle.replay.specs.Demands.{replayedOf}
 use Rattle.replay.specs.declared.answer.Answer.{Answer}

@@ -6,7 +6,7 @@ use Rattle.hgn.specs.State.{State}
 use Rattle.hgn.specs.Network.{Waiting, mostWaiting}
 use Rattle.hgn.specs.Run.{Step, Stepped, refused, taken, stepped}
 use Rattle.hgn.specs.Shop.{domain}
-use Rattle.steps.specs.Entries.{listOf}
+use Rattle.network.specs.Entries.{listOf}
 use Rattle.steps.specs.declared.problem.Problem.{Problem}
 
 -- The number that a step answers: of the first question that fails, or 0.

@@ -11,7 +11,7 @@ use Rattle.hgn.specs.Order.{order}
 use Rattle.hgn.specs.Trace.{stepCount, stepsOf}
 use Rattle.hgn.specs.Replay.{reported}
 use Rattle.hgn.specs.Demands.{InputsPass}
-use Rattle.steps.specs.Entries.{listOf}
+use Rattle.network.specs.Entries.{listOf}
 use Rattle.steps.specs.declared.problem.Problem.{Problem}
 use Rattle.replay.specs.Answers.{Called, actionMoves}
 use Rattle.replay.specs.Demands.{replayedOf}

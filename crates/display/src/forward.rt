@@ -1,12 +1,12 @@
 // The display's record, moved forward by one step where it is held. Document 01, "How a derivation runs": "a stepping display moves one
 // record of atoms and waiting goals forward where it is held ... A refused step gives its number and leaves the record unchanged."
+use network::waiting::Place;
 use steps::problem::Problem;
 use steps::problem::Stepped;
 use steps::step;
-use steps::waiting::Place;
 ghost use mathlib.Core.Path.{_≡_};
 ghost use Prim.Native.Nat.{_≤_, _<_};
-ghost use Rattle.steps.specs.Steps.{Indexed};
+ghost use Rattle.network.specs.Tables.{Indexed};
 ghost use Rattle.display.specs.Forward.{Forward};
 
 // What a step by value comes to: its number, and the record after it.

@@ -1,9 +1,9 @@
 // A whole trace stepped through on the display. Document 01, "How a derivation runs" and "Questions".
 use crate::forward;
+use network::waiting::Place;
 use replay::first;
 use scan::rows::word;
 use steps::problem::Problem;
-use steps::waiting::Place;
 ghost use mathlib.Core.Path.{_≡_};
 ghost use mathlib.Core.Bool.{cond};
 ghost use Prim.Native.Nat.{suc, _+_, _≤_};
@@ -16,8 +16,8 @@ ghost use Rattle.hgn.specs.Trace.{stepCount, checkTrace};
 ghost use Rattle.hgn.specs.Run.{startOf};
 ghost use Rattle.hgn.specs.Network.{goalsOf};
 ghost use Rattle.hgn.specs.Order as OrderSheet;
-ghost use Rattle.steps.specs.Entries.{listOf};
-ghost use Rattle.steps.specs.Steps.{Indexed};
+ghost use Rattle.network.specs.Entries.{listOf};
+ghost use Rattle.network.specs.Tables.{Indexed};
 ghost use Rattle.display.specs.Through.{runOf, Comes};
 
 // What stepping through a trace comes to: the number of the first step that is refused, and that step; 33 and L where goals wait

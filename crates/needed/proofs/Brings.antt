@@ -13,9 +13,9 @@ use Rattle.hgn.specs.Shop.{domain}
 use Rattle.hgn.proofs.Tests.{not-true-false, false-not-true, true-any, mem-at, at-lt, at-getD}
 use Rattle.spans.specs.declared.index.Span.{Span}
 use Rattle.reading.specs.declared.position.Sheet.the-variants as Of
-use Rattle.steps.specs.Entering.{Bounds, Walk}
-use Rattle.steps.proofs.Entered.{nodeAt}
-use Rattle.steps.proofs.NodeWalks.{ahead}
+use Rattle.network.specs.Entering.{Bounds, Walk}
+use Rattle.network.proofs.Entered.{nodeAt}
+use Rattle.network.proofs.NodeWalks.{ahead}
 use Rattle.pruning.specs.Needed.{Needed, OnlyMethod, InEvery}
 use Rattle.pruning.proofs.Needed.{needed-by-node, needed-by-relevance}
 use Rattle.needed.specs.Gathered.{NodesAt, WantedFormula}

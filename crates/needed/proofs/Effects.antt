@@ -11,10 +11,11 @@ use Rattle.hgn.specs.Run.{actionAt}
 use Rattle.hgn.specs.Shop.{domain, actionCount}
 use Rattle.spans.specs.declared.index.Span.{Span}
 use Rattle.reading.proofs.Laws.{told}
-use Rattle.steps.specs.Entries.{spanRows, waitingOf}
-use Rattle.steps.specs.declared.waiting.Entry.{Entry}
-use Rattle.steps.specs.Steps.{Indexed}
-use Rattle.steps.proofs.Tables.{starts-fit}
+use Rattle.formulas.specs.Spanned.{spanRows}
+use Rattle.network.specs.Entries.{waitingOf}
+use Rattle.network.specs.declared.waiting.Entry.{Entry}
+use Rattle.network.specs.Tables.{Indexed}
+use Rattle.network.proofs.Tables.{starts-fit}
 use Rattle.steps.proofs.Actions.{action-rows}
 use Rattle.needed.specs.Tables.{actionSpan}
 

@@ -18,10 +18,10 @@ use Rattle.hgn.proofs.Tests.{contains-iff}
 use Rattle.hgn.proofs.Checked.{shop-actions, shop-counts}
 use Rattle.spans.specs.Index.{tagsOf, valuesOf}
 use Rattle.spans.specs.declared.index.Span.{Span}
-use Rattle.steps.specs.Entries.{spanRows}
-use Rattle.steps.specs.Steps.{Indexed}
-use Rattle.steps.proofs.ByRow.{true-row, false-row, no-row, first-row}
-use Rattle.steps.proofs.Tables.{shop-passes}
+use Rattle.formulas.specs.Spanned.{spanRows}
+use Rattle.network.specs.Tables.{Indexed}
+use Rattle.formulas.proofs.ByRow.{true-row, false-row, no-row, first-row}
+use Rattle.network.proofs.Tables.{shop-passes}
 use Rattle.needed.specs.Tables.{indexOf, OnlyMakers, many, marked, actionSpan}
 use Rattle.needed.proofs.Effects.{effects-are}
 

@@ -17,13 +17,13 @@ use Rattle.hgn.proofs.Tests.{true-any, at-mem, at-of-lt, false-not-true}
 use Rattle.hgn.proofs.Checked.{shop-counts}
 use Rattle.spans.specs.declared.index.Span.{Span}
 use Rattle.reading.specs.declared.position.Sheet.the-variants as Of
-use Rattle.steps.specs.Entries.{spanRows}
-use Rattle.steps.specs.Entering.{Bounds, Walk}
-use Rattle.steps.specs.Steps.{Indexed}
-use Rattle.steps.proofs.NodeWalks.{ahead, at-end, walk-same}
-use Rattle.steps.proofs.Entered.{nodeAt}
-use Rattle.steps.proofs.Tables.{shop-passes}
-use Rattle.steps.proofs.Uses.{MethodAt}
+use Rattle.formulas.specs.Spanned.{spanRows}
+use Rattle.network.specs.Entering.{Bounds, Walk}
+use Rattle.network.specs.Tables.{Indexed}
+use Rattle.network.proofs.NodeWalks.{ahead, at-end, walk-same}
+use Rattle.network.proofs.Entered.{nodeAt}
+use Rattle.network.proofs.Tables.{shop-passes}
+use Rattle.network.proofs.Uses.{MethodAt}
 use Rattle.pruning.specs.Needed.{OnlyMethod, nodeIn}
 use Rattle.needed.specs.Tables.{actionSpan, boundRelevant}
 use Rattle.needed.proofs.Effects.{effects-are}

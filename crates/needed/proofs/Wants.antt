@@ -22,15 +22,16 @@ use Rattle.hgn.proofs.Tests.{contains-iff, false-not-true, at-mem, at-of-lt}
 use Rattle.hgn.proofs.Checked.{shop-counts}
 use Rattle.reading.specs.declared.position.Sheet.the-variants as Of
 use Rattle.spans.proofs.Indexed.{method-span}
-use Rattle.steps.specs.Entries.{spanRows, waitingOf, listOf, entriesOf}
-use Rattle.steps.specs.Steps.{Indexed}
+use Rattle.formulas.specs.Spanned.{spanRows}
+use Rattle.network.specs.Entries.{waitingOf, listOf, entriesOf}
+use Rattle.network.specs.Tables.{Indexed}
 use Rattle.spans.specs.Index.{tagsOf, valuesOf}
 use Rattle.spans.specs.declared.index.Span.{Span}
-use Rattle.steps.specs.declared.waiting.Entry.{Entry}
-use Rattle.steps.specs.declared.waiting.Waiting as Code
-use Rattle.steps.proofs.Places.{entry-inside}
-use Rattle.steps.proofs.ByRow.{first-row}
-use Rattle.steps.proofs.Tables.{shop-passes}
+use Rattle.network.specs.declared.waiting.Entry.{Entry}
+use Rattle.network.specs.declared.waiting.Waiting as Code
+use Rattle.network.proofs.Places.{entry-inside}
+use Rattle.formulas.proofs.ByRow.{first-row}
+use Rattle.network.proofs.Tables.{shop-passes}
 use Rattle.steps.proofs.Actions.{block-rows, action-rows}
 use Rattle.pruning.specs.Needed.{Needed, needsOf}
 use Rattle.pruning.proofs.Needed.{needed-by-goal, needed-by-need}

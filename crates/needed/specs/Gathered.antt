@@ -12,8 +12,8 @@ use Rattle.hgn.specs.Network.{Waiting}
 use Rattle.hgn.specs.Run.{Move, act, use-method, methodAt}
 use Rattle.spans.specs.declared.index.Span.{Span}
 use Rattle.reading.specs.declared.position.Sheet.the-variants as Of
-use Rattle.steps.specs.Entries.{spanRows}
-use Rattle.steps.specs.Entering.{Bounds, Walk}
+use Rattle.formulas.specs.Spanned.{spanRows}
+use Rattle.network.specs.Entering.{Bounds, Walk}
 use Rattle.pruning.specs.Needed.{Needed, OnlyMaker, InEvery, weight, weights, Different}
 use Rattle.needed.specs.Tables.{OnlyMakers}
 use Rattle.needed.specs.declared.least.Gathered.{Gathered}

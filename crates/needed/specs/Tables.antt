@@ -8,8 +8,8 @@ use Rattle.hgn.specs.Meaning.{Literal, Domain, literals, nodeOf}
 use Rattle.hgn.specs.State.{mostAtoms, relevant}
 use Rattle.spans.specs.declared.index.Span.{Span}
 use Rattle.reading.specs.declared.position.Sheet.the-variants as Of
-use Rattle.steps.specs.Entries.{spanRows}
-use Rattle.steps.specs.Entering.{Bounds}
+use Rattle.formulas.specs.Spanned.{spanRows}
+use Rattle.network.specs.Entering.{Bounds}
 use Rattle.pruning.specs.Needed.{OnlyMaker}
 
 -- Where the table has a literal: two words an atom, for false and for true.

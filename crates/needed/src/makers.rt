@@ -1,13 +1,13 @@
 // Which action alone makes a literal, which method alone has a node to which an action is relevant, and whether an action is relevant
 // to a waiting goal.
+use formulas::part;
+use formulas::parts;
+use network::waiting::Waiting;
 use reading::position::Sheet;
 use reading::tag;
 use scan::rows::word;
 use spans::index;
 use spans::index::Span;
-use steps::part;
-use steps::parts;
-use steps::waiting::Waiting;
 ghost use mathlib.Core.Path.{_≡_};
 ghost use mathlib.Core.Bool.{cond};
 ghost use mathlib.Core.List.{List, [], _∷_, zipWith};
@@ -20,9 +20,10 @@ ghost use Rattle.hgn.specs.Meaning.{literals};
 ghost use Rattle.hgn.specs.State.{relevant};
 ghost use Rattle.hgn.specs.Run.{actionAt, methodAt};
 ghost use Rattle.hgn.specs.Shop.{domain, actionCount, methodCount};
-ghost use Rattle.steps.specs.Entries.{listOf, spanRows};
-ghost use Rattle.steps.specs.Entering.{Bounds, Walk};
-ghost use Rattle.steps.specs.Steps.{Indexed};
+ghost use Rattle.network.specs.Entries.{listOf};
+ghost use Rattle.formulas.specs.Spanned.{spanRows};
+ghost use Rattle.network.specs.Entering.{Bounds, Walk};
+ghost use Rattle.network.specs.Tables.{Indexed};
 ghost use Rattle.pruning.specs.Needed.{OnlyMethod};
 ghost use Rattle.needed.specs.Tables.{indexOf, OnlyMakers, actionSpan, boundRelevant, marked};
 

@@ -24,13 +24,14 @@ use Rattle.spans.specs.Index.{ends, span}
 use Rattle.scan.proofs.Lookup.{rows-at}
 use Rattle.spans.proofs.Spans.{by-test, ends-length, NodesFrom}
 use Rattle.spans.proofs.Indexed.{order-length, order-whole, order-nodes-here, order-nodes-later, order-until, order-columns, order-indexable}
-use Rattle.steps.specs.Entries.{orderOrigin, spanRows, waitingOf, listOf, entriesOf}
-use Rattle.steps.specs.Entering.{Bounds, Walk, entriesFrom}
+use Rattle.network.specs.Entries.{orderOrigin, waitingOf, listOf, entriesOf}
+use Rattle.formulas.specs.Spanned.{spanRows}
+use Rattle.network.specs.Entering.{Bounds, Walk, entriesFrom}
 use Rattle.replay.specs.OrderTable.{OrderIndexed}
-use Rattle.steps.specs.declared.waiting.Name.{Name}
-use Rattle.steps.specs.declared.waiting.Waiting.{Waiting}
-use Rattle.steps.proofs.Entered.{nodeAt, order-enters}
-use Rattle.steps.proofs.NodeParts.{walk-nodes}
+use Rattle.network.specs.declared.waiting.Name.{Name}
+use Rattle.network.specs.declared.waiting.Waiting.{Waiting}
+use Rattle.network.proofs.Entered.{nodeAt, order-enters}
+use Rattle.network.proofs.NodeParts.{walk-nodes}
 
 -- The row at which the order's first node begins, or its end, as the code reads it.
 abbrev pub firstRow : List ℕ → List ℕ → ℕ

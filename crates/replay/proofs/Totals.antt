@@ -22,11 +22,11 @@ use Rattle.spans.specs.Index.{starts, span}
 use Rattle.scan.proofs.Lookup.{length-zipWith, getD-zipWith, length-part, getD-part, rows-at}
 use Rattle.spans.proofs.Spans.{bounds, block-first, block-ends}
 use Rattle.spans.proofs.Indexed.{shop-length, blocks-count, action-span}
-use Rattle.steps.specs.Entries.{listOf, entriesOf, waitingOf}
-use Rattle.steps.specs.Steps.{Indexed}
+use Rattle.network.specs.Entries.{listOf, entriesOf, waitingOf}
+use Rattle.network.specs.Tables.{Indexed}
 use Rattle.replay.specs.Answers.{answerOf, runAnswer, endAnswer}
 use Rattle.steps.specs.declared.problem.Problem.{Problem}
-use Rattle.steps.proofs.Tables.{shop-passes, start-at, indexable}
+use Rattle.network.proofs.Tables.{shop-passes, start-at, indexable}
 use Rattle.replay.proofs.Running.{Running, running-next, running-stop, running-end}
 
 -- The steps of a trace that is long enough for them.

@@ -1,5 +1,5 @@
 // A replay's answer. Document 01, "Questions".
-use steps::state::State;
+use formulas::state::State;
 ghost use mathlib.Core.Path.{_≡_};
 ghost use mathlib.Core.List.{[]};
 ghost use Rattle.hgn.specs.Replay.{refusal};

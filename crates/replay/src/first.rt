@@ -1,18 +1,18 @@
 // The first record of a run, from the order sheet. Document 01, "How a derivation runs": at first the state is the atoms of the
 // order's 12 rows, and the waiting list holds the order's goals in listed order.
+use formulas::state;
+use formulas::state::State;
+use network::enter::Network;
+use network::waiting::Name;
+use network::waiting::Place;
+use network::waiting::Waiting;
 use reading::position::Sheet;
 use reading::tag;
 use scan::rows::word;
 use sheets::check::Order;
 use spans::index;
 use spans::index::Span;
-use steps::enter::Network;
 use steps::problem::Problem;
-use steps::state;
-use steps::state::State;
-use steps::waiting::Name;
-use steps::waiting::Place;
-use steps::waiting::Waiting;
 ghost use mathlib.Core.Path.{_≡_};
 ghost use mathlib.Core.Bool.{cond};
 ghost use Prim.Native.Nat.{suc, _+_, _≤_};
@@ -24,8 +24,8 @@ ghost use Rattle.hgn.specs.Run.{startOf};
 ghost use Rattle.hgn.specs.Network.{goalsOf};
 ghost use Rattle.hgn.specs.Order as OrderSheet;
 ghost use Rattle.hgn.specs.Verdict.{passed};
-ghost use Rattle.steps.specs.Entries.{listOf};
-ghost use Rattle.steps.specs.Steps.{Indexed};
+ghost use Rattle.network.specs.Entries.{listOf};
+ghost use Rattle.network.specs.Tables.{Indexed};
 ghost use Rattle.replay.specs.OrderTable.{OrderIndexed};
 
 // The row at which the order's first node begins, or its end. If row 0 is no node, it belongs to no part, and the table says where the

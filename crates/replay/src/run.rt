@@ -1,23 +1,23 @@
 // The run of a trace's steps. Document 01, "How a derivation runs".
 use crate::answer::Answer;
+use formulas::state::State;
+use freeness::free::look;
+use network::waiting::Place;
 use scan::rows::Layout;
 use scan::rows::Row;
 use scan::rows::word;
-use steps::free::look;
 use steps::moves::Move;
 use steps::problem::Problem;
 use steps::problem::acted;
 use steps::questions::Decision;
 use steps::questions::decide;
 use steps::questions::told;
-use steps::state::State;
-use steps::waiting::Place;
 ghost use mathlib.Core.Path.{_≡_};
 ghost use Prim.Native.Nat.{_≤_, _<_, _+_, _-_};
 ghost use lib.ListN.{length, getD};
 ghost use Rattle.hgn.specs.Trace.{stepCount};
-ghost use Rattle.steps.specs.Entries.{listOf, entriesOf};
-ghost use Rattle.steps.specs.Steps.{Indexed};
+ghost use Rattle.network.specs.Entries.{listOf, entriesOf};
+ghost use Rattle.network.specs.Tables.{Indexed};
 ghost use Rattle.replay.specs.Answers.{runAnswer, endAnswer};
 
 // The cost of an action: the value of its first row.

@@ -15,13 +15,14 @@ use Rattle.hgn.specs.Run.{actionAt, methodAt}
 use Rattle.hgn.specs.Shop.{domain, actionCount, methodCount}
 use Rattle.spans.specs.Index.{tagsOf, valuesOf}
 use Rattle.spans.specs.declared.index.Span.{Span}
-use Rattle.steps.specs.Entries.{spanRows, waitingOf}
+use Rattle.formulas.specs.Spanned.{spanRows}
+use Rattle.network.specs.Entries.{waitingOf}
 use Rattle.steps.specs.Moves.{Known, knownOf}
-use Rattle.steps.specs.Steps.{Indexed}
+use Rattle.network.specs.Tables.{Indexed}
 use Rattle.steps.specs.declared.moves.Move.{Move}
 use Rattle.steps.specs.declared.moves.Move.the-variants.{Release, Act, Use}
-use Rattle.steps.specs.declared.waiting.Entry.{Entry}
-use Rattle.steps.proofs.Tables.{starts-fit}
+use Rattle.network.specs.declared.waiting.Entry.{Entry}
+use Rattle.network.proofs.Tables.{starts-fit}
 use Rattle.steps.proofs.Actions.{known-action, action-rows}
 use Rattle.pruning.specs.Rules.{ready, idle, lowerToo, stateAfter}
 use Rattle.needed.specs.Tables.{actionSpan}

@@ -19,15 +19,15 @@ use Rattle.hgn.specs.Trace.{step}
 use Rattle.hgn.specs.Search.{movesOf}
 use Rattle.hgn.proofs.Checked.{shop-counts}
 use Rattle.reading.proofs.Laws.{told}
-use Rattle.steps.specs.Entries.{waitingOf, entriesOf, listOf, entryAt}
+use Rattle.network.specs.Entries.{waitingOf, entriesOf, listOf, entryAt}
 use Rattle.steps.specs.Moves.{Known, knownOf}
-use Rattle.steps.specs.Steps.{Indexed}
+use Rattle.network.specs.Tables.{Indexed}
 use Rattle.steps.specs.declared.moves.Move.{Move}
 use Rattle.steps.specs.declared.moves.Move.the-variants.{Release, Act, Use}
 use Rattle.steps.specs.declared.problem.Problem.{Problem}
-use Rattle.steps.specs.declared.waiting.Entry.{Entry}
-use Rattle.steps.proofs.Goals.{entries-length, list-length, goal-is}
-use Rattle.steps.proofs.Tables.{shop-passes}
+use Rattle.network.specs.declared.waiting.Entry.{Entry}
+use Rattle.network.proofs.Goals.{entries-length, list-length, goal-is}
+use Rattle.network.proofs.Tables.{shop-passes}
 use Rattle.pruning.specs.Rules.{ready, idle}
 use Rattle.pruning.specs.Pruned.{prunedOf, moveAt, movesFrom, placesFrom}
 use Rattle.pruning.proofs.Loops.{moves-count, moves-next, moves-end, places-next}

@@ -21,10 +21,11 @@ use Rattle.scan.specs.declared.rows.Layout.{Layout}
 use Rattle.reading.specs.declared.position.Sheet.the-variants as Of
 use Rattle.spans.proofs.Spans.{span-empty}
 use Rattle.reading.proofs.Laws.{told}
-use Rattle.steps.specs.Entries.{spanRows, waitingOf, listOf, entriesOf, entryAt, noEntry}
-use Rattle.steps.specs.declared.waiting.Entry.{Entry}
-use Rattle.steps.specs.declared.waiting.Waiting.{Waiting}
-use Rattle.steps.proofs.Goals.{list-length}
+use Rattle.formulas.specs.Spanned.{spanRows}
+use Rattle.network.specs.Entries.{waitingOf, listOf, entriesOf, entryAt, noEntry}
+use Rattle.network.specs.declared.waiting.Entry.{Entry}
+use Rattle.network.specs.declared.waiting.Waiting.{Waiting}
+use Rattle.network.proofs.Goals.{list-length}
 use Rattle.pruning.specs.Rules.{tooFewLeft, sameState}
 
 -- A search along a list that has come to place `i`: it ends there, has found one, or goes on.

@@ -13,10 +13,10 @@ use Rattle.hgn.specs.Trace.{step}
 use Rattle.hgn.proofs.Moves.{reads-action, reads-method}
 use Rattle.hgn.proofs.Checked.{shop-actions, shop-methods, shop-counts}
 use Rattle.steps.specs.Moves.{Known, knownOf}
-use Rattle.steps.specs.Steps.{Indexed}
+use Rattle.network.specs.Tables.{Indexed}
 use Rattle.steps.specs.declared.moves.Move.{Move}
 use Rattle.steps.specs.declared.moves.Move.the-variants.{Release, Act, Use}
-use Rattle.steps.proofs.Tables.{shop-passes}
+use Rattle.network.proofs.Tables.{shop-passes}
 use Rattle.pruning.specs.Rules.{isAction, goesFirst}
 use Rattle.search.specs.Trials.{moveNumber, actionNumber, before}
 

@@ -12,13 +12,13 @@ use Rattle.hgn.specs.Run as Run
 use Rattle.hgn.specs.Shop.{domain, actionCount, methodCount}
 use Rattle.hgn.specs.Trace.{step}
 use Rattle.reading.proofs.Laws.{told}
-use Rattle.steps.specs.Entries.{waitingOf, listOf, entryAt}
+use Rattle.network.specs.Entries.{waitingOf, listOf, entryAt}
 use Rattle.steps.specs.Moves.{Known, knownOf}
-use Rattle.steps.specs.Steps.{Indexed}
+use Rattle.network.specs.Tables.{Indexed}
 use Rattle.steps.specs.declared.moves.Move.{Move}
 use Rattle.steps.specs.declared.moves.Move.the-variants.{Release, Act, Use}
-use Rattle.steps.specs.declared.waiting.Entry.{Entry}
-use Rattle.steps.specs.declared.waiting.Waiting.{Waiting}
+use Rattle.network.specs.declared.waiting.Entry.{Entry}
+use Rattle.network.specs.declared.waiting.Waiting.{Waiting}
 use Rattle.pruning.specs.Rules.{ready, stateAfter, sameState, commute, couldGoFirst}
 use Rattle.search.specs.Trials.{moveNumber, actionNumber, before, swapReady}
 use Rattle.search.proofs.Reading.{number-read, before-is}

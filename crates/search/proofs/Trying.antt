@@ -22,15 +22,16 @@ use Rattle.hgn.specs.Network.{free}
 use Rattle.hgn.specs.Trace.{step}
 use Rattle.hgn.specs.Shop.{domain, actionCount, methodCount}
 use Rattle.reading.proofs.Laws.{told}
-use Rattle.steps.specs.Entries.{listOf}
+use Rattle.network.specs.Entries.{listOf}
 use Rattle.steps.specs.Moves.{Known, knownOf}
 use Rattle.steps.specs.Steps as Spec
-use Rattle.steps.specs.Steps.{Indexed, ifFree, steppedOf, doneOf}
+use Rattle.network.specs.Tables.{Indexed}
+use Rattle.steps.specs.Steps.{ifFree, steppedOf, doneOf}
 use Rattle.steps.specs.declared.moves.Move as Moves
 use Rattle.steps.specs.declared.moves.Move.the-variants.{Release, Act, Use}
 use Rattle.steps.specs.declared.problem.Problem.{Problem}
 use Rattle.steps.specs.declared.problem.Stepped as Code
-use Rattle.steps.proofs.Goals.{list-length}
+use Rattle.network.proofs.Goals.{list-length}
 use Rattle.steps.proofs.Bodies.{step-body}
 use Rattle.search.specs.Trials.{moveNumber, wanted, crowded, opens, Tries}
 use Rattle.search.specs.declared.trial.Tried.{Tried}

@@ -11,7 +11,7 @@ use Rattle.hgn.specs.Network.{Waiting, mostWaiting}
 use Rattle.hgn.specs.Run as Run
 use Rattle.hgn.specs.Run.{Step, firstMethod, actionAt, stepped}
 use Rattle.hgn.specs.Shop.{domain}
-use Rattle.steps.specs.Entries.{listOf}
+use Rattle.network.specs.Entries.{listOf}
 use Rattle.steps.specs.declared.moves.Move.{Move}
 use Rattle.steps.specs.declared.moves.Move.the-variants.{Release, Act, Use}
 use Rattle.steps.specs.declared.problem.Problem.{Problem}

@@ -2,6 +2,7 @@
 use crate::explore;
 use crate::found::Found;
 use needed::least;
+use network::waiting::Place;
 use replay::first;
 use scan::rows::Layout;
 use sheets::check;
@@ -9,7 +10,6 @@ use sheets::check::Shop;
 use sheets::check::Verdict;
 use steps::moves::Move;
 use steps::problem::Problem;
-use steps::waiting::Place;
 ghost use mathlib.Core.Path.{_≡_};
 ghost use Prim.Native.Nat.{suc, _≤_, _+_};
 ghost use lib.ListN.{length};
@@ -19,8 +19,8 @@ ghost use Rattle.hgn.specs.Shop.{mostActions, mostMethods, domain};
 ghost use Rattle.hgn.specs.Verdict.{passed};
 ghost use Rattle.hgn.specs.Order.{checkOrder};
 ghost use Rattle.hgn.specs.Search.{searched};
-ghost use Rattle.steps.specs.Entries.{listOf};
-ghost use Rattle.steps.specs.Steps.{Indexed};
+ghost use Rattle.network.specs.Entries.{listOf};
+ghost use Rattle.network.specs.Tables.{Indexed};
 ghost use Rattle.pruning.specs.Pruned.{prunedShortest};
 ghost use Rattle.search.specs.Founds.{shortestOf, traceOf, Called};
 

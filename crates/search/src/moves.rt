@@ -8,8 +8,8 @@ ghost use Prim.Native.Nat.{_<_};
 ghost use Rattle.hgn.specs.Meaning.{literals};
 ghost use Rattle.hgn.specs.Run.{methodAt};
 ghost use Rattle.hgn.specs.Shop.{domain, methodCount};
-ghost use Rattle.steps.specs.Steps.{Indexed};
-ghost use Rattle.steps.specs.Entries.{spanRows};
+ghost use Rattle.network.specs.Tables.{Indexed};
+ghost use Rattle.formulas.specs.Spanned.{spanRows};
 ghost use Rattle.search.specs.Trials.{nthMove, moveNumber};
 
 // Move `i` of the known moves, rising: the release, the actions, the methods.

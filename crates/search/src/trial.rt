@@ -1,18 +1,18 @@
 // One step of the search: taken, if it may be and is not left out.
 use crate::rules;
+use network::waiting::Entry;
+use network::waiting::Place;
 use steps::moves::Move;
 use steps::problem::Problem;
 use steps::step;
-use steps::waiting::Entry;
-use steps::waiting::Place;
 ghost use mathlib.Core.Path.{_≡_};
 ghost use mathlib.Core.Bool.{true, false};
 ghost use Prim.Native.Nat.{_≤_, _<_};
 ghost use Rattle.hgn.specs.Network.{free, goalAt};
 ghost use Rattle.hgn.specs.Shop.{domain, actionCount, methodCount};
 ghost use Rattle.hgn.specs.Trace.{step};
-ghost use Rattle.steps.specs.Entries.{listOf, waitingOf};
-ghost use Rattle.steps.specs.Steps.{Indexed};
+ghost use Rattle.network.specs.Entries.{listOf, waitingOf};
+ghost use Rattle.network.specs.Tables.{Indexed};
 ghost use Rattle.steps.specs.Moves.{Known, knownOf};
 ghost use Rattle.pruning.specs.Rules.{idle};
 ghost use Rattle.search.specs.Trials.{moveNumber, opens, Tries};

@@ -15,12 +15,12 @@ use Rattle.spans.specs.Index.{span}
 use Rattle.reading.specs.declared.position.Sheet.the-variants as Of
 use Rattle.spans.proofs.Spans.{bounds, block-ends}
 use Rattle.spans.proofs.Indexed.{blocks-count, action-span}
-use Rattle.steps.specs.Entries.{spanRows}
+use Rattle.formulas.specs.Spanned.{spanRows}
 use Rattle.steps.specs.Moves.{Known, knownOf, moveRead}
-use Rattle.steps.specs.Steps.{Indexed}
+use Rattle.network.specs.Tables.{Indexed}
 use Rattle.steps.specs.declared.moves.Move.{Move}
 use Rattle.steps.specs.declared.moves.Move.the-variants.{Release, Act, Use}
-use Rattle.steps.proofs.Tables.{shop-passes, start-at, rows-of}
+use Rattle.network.proofs.Tables.{shop-passes, start-at, rows-of}
 
 -- What the tables of a shop sheet that passed say.
 module _ {shop order endTable startTable : List ℕ} (i : Indexed shop order endTable startTable) where

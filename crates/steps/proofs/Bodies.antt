@@ -19,7 +19,7 @@ use Rattle.hgn.proofs.Steps.{free-answered}
 use Rattle.steps.specs.Moves.{knownOf, moveRead}
 use Rattle.steps.specs.Steps.{ifFree}
 use Rattle.steps.specs.Steps as Spec
-use Rattle.steps.specs.Entries.{listOf}
+use Rattle.network.specs.Entries.{listOf}
 use Rattle.steps.specs.declared.moves.Move.{Move}
 use Rattle.steps.specs.declared.moves.Move.the-variants.{Release, Act, Use}
 use Rattle.steps.specs.declared.problem.Problem.{Problem}

@@ -6,7 +6,7 @@ use mathlib.Core.Bool.{Bool, true, false, cond}
 use mathlib.Core.List.{List}
 use mathlib.Core.Option.{some}
 use lib.Dec.{leb}
-use lib.ListN.{length, getD, length-append, length-take, length-drop, length-map}
+use lib.ListN.{length, getD, length-append, length-take, length-drop}
 use borrow.Author.Tests.{ne-eqb, leb-true, le-leb, lt-leb}
 use Rattle.hgn.specs.Meaning as Meaning
 use Rattle.hgn.specs.Meaning.{Domain, Formula, Node, literals, nodeOf, goalOf, networkOf}
@@ -17,27 +17,27 @@ use Rattle.hgn.specs.Run as Run
 use Rattle.hgn.specs.Run.{ask, refused, moveOf, actionAt, methodAt}
 use Rattle.hgn.specs.Shop.{domain, actionCount, methodCount}
 use Rattle.hgn.proofs.Waiting.{length-enter}
-use Rattle.hgn.proofs.Checked.{length-lastAfterAll}
 use Rattle.reading.specs.declared.position.Sheet.the-variants as Of
 use Rattle.spans.specs.declared.index.Span.{Span}
-use Rattle.steps.specs.Entries.{spanRows, waitingOf, entriesOf, listOf}
-use Rattle.steps.specs.Seeing.{Sees}
-use Rattle.steps.specs.Entering.{Bounds, Walk, Counted}
+use Rattle.formulas.specs.Spanned.{spanRows}
+use Rattle.network.specs.Entries.{waitingOf, entriesOf, listOf}
+use Rattle.freeness.specs.Seeing.{Sees}
+use Rattle.network.specs.Entering.{Bounds, Walk, Counted}
 use Rattle.steps.specs.Moves.{Known, knownOf, readOf, moveRead}
-use Rattle.steps.specs.Steps.{Indexed, ifFree}
+use Rattle.network.specs.Tables.{Indexed}
+use Rattle.steps.specs.Steps.{ifFree}
 use Rattle.steps.specs.Deciding.{actionQuestion, questionOf, toldOf, SeenIn, carried, Room, Decides}
-use Rattle.steps.specs.declared.enter.Nodes.{Nodes}
-use Rattle.steps.specs.declared.free.Seen.{Seen}
-use Rattle.steps.specs.declared.waiting.Waiting.{Waiting}
+use Rattle.network.specs.declared.enter.Nodes.{Nodes}
+use Rattle.freeness.specs.declared.free.Seen.{Seen}
+use Rattle.network.specs.declared.waiting.Waiting.{Waiting}
 use Rattle.steps.specs.declared.moves.Move.{Move}
 use Rattle.steps.specs.declared.moves.Move.the-variants.{Release, Act, Use}
 use Rattle.steps.specs.declared.moves.Read.{Read}
 use Rattle.steps.specs.declared.moves.Read.the-variants.{Is, Unreadable}
 use Rattle.steps.specs.declared.questions.Decision.the-variants.{Refused, Takes}
-use Rattle.steps.proofs.Tables.{shop-passes}
-use Rattle.steps.proofs.Goals.{entries-length, list-length, goal-is}
-use Rattle.steps.proofs.Entered.{nodeAt}
-use Rattle.steps.proofs.Uses.{MethodAt}
+use Rattle.network.proofs.Tables.{shop-passes}
+use Rattle.network.proofs.Goals.{entries-length, list-length, goal-is}
+use Rattle.network.proofs.Uses.{MethodAt, method-size}
 use Rattle.steps.proofs.Bodies.{read-by-counts, step-25, step-26, step-27, step-28, step-body}
 use Rattle.steps.proofs.Actions.{known-read, known-action, action-rows}
 
@@ -219,10 +219,6 @@ module _ {shop order endTable startTable : List ℕ} (ix : Indexed shop order en
 
 -- A method's questions from its rows.
 module _ {shop order table : List ℕ} {m from to first : ℕ} (a : MethodAt shop order table m from to first) where
-  pub method-size : length (networkOf (methodAt (domain shop) m)) ≡ length (a .bs)
-  unfolding networkOf
-  method-size = length-lastAfterAll 0 (methodAt (domain shop) m .nodes) ∙ ap length (sym (a .nodes)) ∙ length-map (a .bs) (nodeAt shop order Of.Shop)
-
   module _ (s : State) (f : Formula) (count : ℕ) {able v : Bool}
       (needs : able ≡ allHold s (literals 3 4 (spanRows shop order (record { sheet = Of.Shop; from = from; to = first })))) (is : able ≡ v) where
     asked-needs : v ≡ allHold s (methodAt (domain shop) m .needs)
@@ -244,7 +240,7 @@ module _ {shop order table : List ℕ} {m from to first : ℕ} (a : MethodAt sho
       method-irrelevant e = rw (← asked-needs, yes, ← asked-goal, e)
 
       size : count + length (networkOf (methodAt (domain shop) m)) ≡ count + nodes .count
-      size = ap (λ (k : ℕ). count + k) (method-size ∙ sym (counted (a .bs) (a .walk) .number))
+      size = ap (λ (k : ℕ). count + k) (method-size a ∙ sym (counted (a .bs) (a .walk) .number))
 
       pub method-may : u ≡ true → count + nodes .count ≤ 64 → 0 ≡ questionOf (domain shop) s f count (Run.use-method m)
       unfolding questionOf

@@ -1,19 +1,6 @@
 -- Laws of the definitions in the shape that the code asks for.
-pub mod Walks
-pub mod ByRow
-pub mod Formulas
 pub mod Changes
-pub mod Goals
 pub mod Bodies
-pub mod Places
-pub mod Afters
-pub mod NodeWalks
-pub mod Entered
-pub mod Filling
-pub mod Tables
-pub mod NodeParts
-pub mod Uses
 pub mod Actions
 pub mod Decided
-pub mod Decomposing
 pub mod Taken

@@ -5,6 +5,7 @@ use mathlib.Core.Path.{_≡_, refl, sym, ap, ap₂, subst, _∙_}
 use mathlib.Core.Logic.{_≢_}
 use mathlib.Core.List.{List, [], _∷_}
 use lib.ListN.{length, getD}
+use borrow.Author.Tests.{eq-eqb, ne-eqb}
 use Rattle.hgn.specs.Meaning.{Domain, Formula, nodeOf, networkOf}
 use Rattle.hgn.specs.State.{State, γ}
 use Rattle.hgn.specs.Network as Network
@@ -14,19 +15,20 @@ use Rattle.hgn.specs.Run.{refused, taken, stepped, actionAt, methodAt}
 use Rattle.hgn.specs.Shop.{domain}
 use Rattle.hgn.proofs.Runs.{resumed, run-cons}
 use Rattle.hgn.proofs.Replayed.{RunNumbered, run-numbered}
-use Rattle.steps.specs.Entries.{spanRows, noEntry, entriesOf, listOf, without}
+use Rattle.formulas.specs.Spanned.{spanRows}
+use Rattle.network.specs.Entries.{noEntry, entriesOf, listOf, without}
 use Rattle.steps.specs.Moves.{knownOf}
-use Rattle.steps.specs.Steps.{Stepped, ifFree}
+use Rattle.steps.specs.Steps.{Stepped, steppedOf, ifFree}
 use Rattle.steps.specs.Deciding.{questionOf, toldOf, carried, Room, Taking, Decides}
-use Rattle.steps.specs.declared.waiting.Entry.{Entry}
-use Rattle.steps.specs.declared.waiting.Waiting.{Waiting}
+use Rattle.network.specs.declared.waiting.Entry.{Entry}
+use Rattle.network.specs.declared.waiting.Waiting.{Waiting}
 use Rattle.steps.specs.declared.moves.Move.{Move}
 use Rattle.steps.specs.declared.moves.Move.the-variants.{Release, Act, Use}
 use Rattle.steps.specs.declared.problem.Problem.{Problem}
 use Rattle.steps.specs.declared.problem.Stepped as Code
 use Rattle.steps.specs.declared.questions.Decision.{Decision}
 use Rattle.steps.specs.declared.questions.Decision.the-variants.{Refused, Takes}
-use Rattle.steps.proofs.Goals.{list-length, goal-formula, list-released, taken-action}
+use Rattle.network.proofs.Goals.{list-length, goal-formula, list-released}
 use Rattle.steps.proofs.Bodies.{refused-is}
 use Rattle.steps.proofs.Decided.{leaves-room, takes-it, refuses-it}
 
@@ -43,6 +45,11 @@ refused-numbered : (d : Domain) (n : ℕ) (s : State) (w : List Network.Waiting)
 unfolding resumed
 refused-numbered d n s w x q e =
     subst RunNumbered (run-cons mostWaiting d n s w x [] ∙ ap (resumed mostWaiting d n []) e) (run-numbered mostWaiting d n s w (x ∷ []))
+
+-- A step that is taken with an action.
+taken-action : (shop order : List ℕ) (r : Code.Stepped) → r .number ≡ 0 → r .action ≢ 0
+    → steppedOf shop order r ≡ taken (r .action ∷ []) (r .problem .atoms) (listOf shop order (r .problem .waiting))
+taken-action shop order r z a = rw (eq-eqb (r .number) 0 z, ne-eqb (r .action) 0 a)
 
 module _ (shop order : List ℕ) (n : ℕ) (b : Problem) (few : b .waiting .count ≤ 64) (p : ℕ) where
   abbrev w : List Network.Waiting

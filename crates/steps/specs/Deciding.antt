@@ -13,9 +13,10 @@ use Rattle.hgn.specs.Run as Run
 use Rattle.hgn.specs.Run.{actionAt, methodAt, refused, taken, stepped}
 use Rattle.hgn.specs.Shop.{domain, actionCount, methodCount}
 use Rattle.spans.specs.declared.index.Span.{Span}
-use Rattle.steps.specs.Entries.{spanRows, waitingOf}
+use Rattle.formulas.specs.Spanned.{spanRows}
+use Rattle.network.specs.Entries.{waitingOf}
 use Rattle.steps.specs.Moves.{Known}
-use Rattle.steps.specs.declared.free.Seen.{Seen}
+use Rattle.freeness.specs.declared.free.Seen.{Seen}
 use Rattle.steps.specs.declared.moves.Move.{Move}
 use Rattle.steps.specs.declared.moves.Move.the-variants.{Release, Act, Use}
 use Rattle.steps.specs.declared.questions.Decision.{Decision}

@@ -1,20 +1,16 @@
 -- What a step of the code comes to, as the definitions have it. Document 01, "How a derivation runs".
-use Prim.Native.Nat.{ℕ, suc, _+_, _≤_}
+use Prim.Native.Nat.{ℕ, _≤_}
 use mathlib.Core.Path.{_≡_}
 use mathlib.Core.Bool.{cond}
-use mathlib.Core.List.{List, [], _∷_, _++_}
+use mathlib.Core.List.{List, [], _∷_}
 use lib.Dec.{eqb, leb}
-use lib.ListN.{length, take}
+use lib.ListN.{length}
 use Rattle.hgn.specs.Meaning.{Domain, goalOf, networkOf}
 use Rattle.hgn.specs.State.{State, γ, allHold, formulaHolds, relevant}
 use Rattle.hgn.specs.Network.{Waiting, mostWaiting, goalAt, released, decomposed}
 use Rattle.hgn.specs.Run as Run
 use Rattle.hgn.specs.Run.{actionAt, methodAt}
-use Rattle.hgn.specs.Verdict.{passed}
-use Rattle.hgn.specs.Shop.{rowCount, actionCount, methodCount, shopRows}
-use Rattle.hgn.specs.Order.{checkOrder}
-use Rattle.spans.specs.Index.{starts, ends}
-use Rattle.steps.specs.Entries.{listOf}
+use Rattle.network.specs.Entries.{listOf}
 use Rattle.steps.specs.declared.problem.Problem.{Problem}
 use Rattle.steps.specs.declared.problem.Stepped as Code
 
@@ -33,12 +29,6 @@ pub record Stepped (o : Run.Stepped) (shop order : List ℕ) (problem : Problem)
   pub comes-to : steppedOf shop order r ≡ o
   pub unchanged : (r .number ≡ 0 → ⊥) → r .problem ≡ problem
   pub within : r .problem .waiting .count ≤ mostWaiting
-
--- The sheets passed, and these tables say where the shop's parts end and its actions and methods start.
-pub record Indexed (shop order endTable startTable : List ℕ) : Type 0 where
-  pub checked : checkOrder shop order ≡ passed
-  pub ends-are : take (rowCount shop) endTable ≡ ends 0 (shopRows shop)
-  pub starts-are : take (suc (actionCount shop + methodCount shop)) startTable ≡ starts 0 (shopRows shop) ++ (rowCount shop ∷ [])
 
 -- A move's own questions, after those on freeness.
 unfoldable pub ifFree : Domain → ℕ → State → List Waiting → ℕ → Run.Move → Run.Stepped

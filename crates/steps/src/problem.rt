@@ -1,6 +1,6 @@
 // The record that a step moves forward: the atoms and the waiting goals. Document 01, "How a derivation runs".
-use crate::state;
-use crate::waiting::Waiting;
+use formulas::state;
+use network::waiting::Waiting;
 use reading::position::Sheet;
 use reading::tag;
 use spans::index;
@@ -12,8 +12,8 @@ ghost use Rattle.hgn.specs.Meaning.{literals};
 ghost use Rattle.hgn.specs.State.{γ};
 ghost use Rattle.hgn.specs.Run.{actionAt};
 ghost use Rattle.hgn.specs.Shop.{domain, actionCount};
-ghost use Rattle.steps.specs.Entries.{spanRows};
-ghost use Rattle.steps.specs.Steps.{Indexed};
+ghost use Rattle.formulas.specs.Spanned.{spanRows};
+ghost use Rattle.network.specs.Tables.{Indexed};
 
 pub struct Problem {
     pub atoms: [bool; 256],

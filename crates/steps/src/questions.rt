@@ -1,12 +1,12 @@
 // A step's questions, answered before anything changes. Document 01, "Questions".
-use crate::enter;
-use crate::free;
-use crate::free::Seen;
 use crate::moves::Move;
 use crate::moves::Read;
-use crate::parts;
-use crate::waiting::Place;
-use crate::waiting::Waiting;
+use formulas::parts;
+use freeness::free;
+use freeness::free::Seen;
+use network::enter;
+use network::waiting::Place;
+use network::waiting::Waiting;
 use reading::position::Sheet;
 use reading::tag;
 use scan::rows::word;
@@ -18,9 +18,10 @@ ghost use Rattle.hgn.specs.Meaning.{nodeOf};
 ghost use Rattle.hgn.specs.Network as Network;
 ghost use Rattle.hgn.specs.Run as Run;
 ghost use Rattle.hgn.specs.Shop.{domain, actionCount, methodCount};
-ghost use Rattle.steps.specs.Entries.{spanRows, listOf};
+ghost use Rattle.formulas.specs.Spanned.{spanRows};
+ghost use Rattle.network.specs.Entries.{listOf};
 ghost use Rattle.steps.specs.Moves.{Known, knownOf};
-ghost use Rattle.steps.specs.Steps.{Indexed};
+ghost use Rattle.network.specs.Tables.{Indexed};
 ghost use Rattle.steps.specs.Deciding.{actionQuestion, questionOf, toldOf, SeenIn, Decides};
 
 // The number of the first question that fails, or the move that may be taken.

@@ -1,20 +1,21 @@
 // One step: its questions, then the move. Document 01, "Questions".
-use crate::free;
 use crate::moves::Move;
 use crate::problem;
 use crate::problem::Problem;
 use crate::problem::Stepped;
 use crate::questions;
 use crate::questions::Decision;
-use crate::waiting::Name;
-use crate::waiting::Place;
+use freeness::free;
+use network::waiting::Name;
+use network::waiting::Place;
 ghost use mathlib.Core.Path.{_≡_};
 ghost use Prim.Native.Nat.{_≤_, _<_};
 ghost use Rattle.hgn.specs.Run as Run;
 ghost use Rattle.hgn.specs.Shop.{domain, actionCount, methodCount};
 ghost use Rattle.hgn.specs.Network.{mostWaiting};
-ghost use Rattle.steps.specs.Entries.{listOf, entryAt};
-ghost use Rattle.steps.specs.Steps.{Stepped as Is, Indexed, ifFree};
+ghost use Rattle.network.specs.Entries.{listOf, entryAt};
+ghost use Rattle.steps.specs.Steps.{Stepped as Is, ifFree};
+ghost use Rattle.network.specs.Tables.{Indexed};
 ghost use Rattle.steps.specs.Moves.{Known, knownOf};
 ghost use Rattle.steps.specs.Deciding.{carried, Room};
 

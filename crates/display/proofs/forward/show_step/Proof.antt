@@ -42,8 +42,8 @@ use denote.Exit.{yes}
 use Rattle.steps.specs.declared.problem.Problem.{Problem}
 use Rattle.steps.proofs.problem.Problem as P
 use Rattle.steps.proofs.problem.Problem.Laws as P′
-use Rattle.steps.proofs.waiting.Place as L
-use Rattle.steps.proofs.waiting.Place.Laws as L′
+use Rattle.network.proofs.waiting.Place as L
+use Rattle.network.proofs.waiting.Place.Laws as L′
 use Rattle.display.specs.declared.forward.Shown.{Shown}
 use Rattle.display.proofs.forward.Shown as D
 use Rattle.display.proofs.forward.Shown.Laws as D′

@@ -47,8 +47,8 @@ use Rattle.steps.proofs.problem.Problem as P
 use Rattle.steps.proofs.problem.Problem.Laws as P′
 use Rattle.steps.proofs.problem.Stepped as S
 use Rattle.steps.proofs.problem.Stepped.Laws as S′
-use Rattle.steps.proofs.waiting.Place as L
-use Rattle.steps.proofs.waiting.Place.Laws as L′
+use Rattle.network.proofs.waiting.Place as L
+use Rattle.network.proofs.waiting.Place.Laws as L′
 use Rattle.steps.proofs.step.step as step
 use Rattle.steps.proofs.step.step.Symbol as step-def
 use Rattle.steps.proofs.step.step.Symbol.{name as #steps·step·step}

@@ -4,8 +4,8 @@ use mathlib.Core.Path.{_≡_, sym, _∙_}
 use lib.ListN.{length, length-map}
 use borrow.Author.Needs.{needs}
 use Rattle.hgn.proofs.Checked.{shop-counts}
-use Rattle.steps.proofs.Tables.{shop-passes}
-use Rattle.steps.proofs.Goals.{list-length}
+use Rattle.network.proofs.Tables.{shop-passes}
+use Rattle.network.proofs.Goals.{list-length}
 use Rattle.needed.proofs.Gathering.{least-found}
 use Rattle.needed.proofs.least.at_least.Statement.{statement}
 use Rattle.needed.proofs.least.at_least.Tie as tie

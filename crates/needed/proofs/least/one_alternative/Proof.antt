@@ -7,7 +7,7 @@ use borrow.Author.Needs.{needs}
 use lib.ListN.{drop}
 use Rattle.hgn.specs.Rows.{row}
 use Rattle.hgn.proofs.Tests.{false-not-true}
-use Rattle.steps.proofs.Walks.{by-row, at-end}
+use Rattle.formulas.proofs.Walks.{by-row, at-end}
 use Rattle.needed.proofs.Wants.{oneFrom, one-formula, one-begins, one-goes-on, one-not-yet, one-ends}
 use Rattle.needed.proofs.least.one_alternative.Statement.{statement}
 use Rattle.needed.proofs.least.one_alternative.Tie as tie

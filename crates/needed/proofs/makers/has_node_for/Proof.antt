@@ -3,7 +3,7 @@ use Prim.Native.Nat.{_-_}
 use native.Mathlib.Omega.{arith}
 use borrow.Author.Needs.{needs}
 use Rattle.reading.proofs.Laws.{told}
-use Rattle.steps.proofs.NodeWalks.{ahead}
+use Rattle.network.proofs.NodeWalks.{ahead}
 use Rattle.needed.specs.Tables.{boundRelevant}
 use Rattle.needed.proofs.OnlyMethods.{Looked, looked-none, looked-found, looked-more, looked-all}
 use Rattle.needed.proofs.makers.has_node_for.Statement.{statement}

@@ -1,8 +1,8 @@
 -- A method's nodes are read along the index. Assumes nothing.
 use native.Mathlib.Omega.{arith}
 use borrow.Author.Needs.{needs}
-use Rattle.steps.proofs.Tables.{starts-fit}
-use Rattle.steps.proofs.Uses.{from-fits, from-few, method-read}
+use Rattle.network.proofs.Tables.{starts-fit}
+use Rattle.network.proofs.Uses.{from-fits, from-few, method-read}
 use Rattle.needed.proofs.OnlyMethods.{method-told}
 use Rattle.needed.proofs.makers.method_has.Statement.{statement}
 use Rattle.needed.proofs.makers.method_has.Tie as tie

@@ -8,9 +8,9 @@ use Rattle.hgn.specs.Lists.{any}
 use Rattle.hgn.specs.State.{relevant}
 use Rattle.hgn.specs.Run.{actionAt}
 use Rattle.hgn.specs.Shop.{domain}
-use Rattle.steps.specs.Entries.{listOf}
-use Rattle.steps.proofs.Places.{entry-inside}
-use Rattle.steps.proofs.Afters.{goals-none, goals-found, goals-on}
+use Rattle.network.specs.Entries.{listOf}
+use Rattle.network.proofs.Places.{entry-inside}
+use Rattle.freeness.proofs.Afters.{goals-none, goals-found, goals-on}
 use Rattle.needed.proofs.Effects.{action-inside, wanted-at}
 use Rattle.needed.proofs.makers.wanted_by.Statement.{statement}
 use Rattle.needed.proofs.makers.wanted_by.Tie as tie

@@ -6,7 +6,7 @@ use borrow.Author.Needs.{needs}
 use lib.ListN.{drop}
 use Rattle.hgn.specs.Rows.{row}
 use Rattle.hgn.specs.Meaning.{literals}
-use Rattle.steps.proofs.Walks.{by-row, at-end}
+use Rattle.formulas.proofs.Walks.{by-row, at-end}
 use Rattle.needed.specs.Tables.{marked}
 use Rattle.needed.proofs.OnlyMade.{markedIn, marked-first}
 use Rattle.needed.proofs.makers.with_action.Statement.{statement}

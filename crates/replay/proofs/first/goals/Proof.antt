@@ -9,9 +9,9 @@ use borrow.Author.Needs.{needs}
 use Rattle.hgn.specs.Order as Order
 use Rattle.hgn.proofs.Checked.{order-count, order-goals}
 use Rattle.reading.specs.declared.position.Sheet.the-variants as Of
-use Rattle.steps.specs.Entries.{entriesOf}
-use Rattle.steps.specs.Entering.{Walk, entriesFrom}
-use Rattle.steps.specs.declared.waiting.Entry.{Entry}
+use Rattle.network.specs.Entries.{entriesOf}
+use Rattle.network.specs.Entering.{Walk, entriesFrom}
+use Rattle.network.specs.declared.waiting.Entry.{Entry}
 use Rattle.replay.proofs.Firsts.{GoalsAt, goals-read, goals-entered}
 use Rattle.replay.proofs.first.goals.Statement.{statement}
 use Rattle.replay.proofs.first.goals.Tie as tie

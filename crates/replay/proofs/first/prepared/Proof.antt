@@ -15,7 +15,7 @@ use Rattle.reading.specs.declared.position.Sheet.the-variants as Of
 use Rattle.scan.specs.declared.rows.Layout.{Layout}
 use Rattle.spans.specs.Index.{Indexable, layoutOf, starts, ends}
 use Rattle.spans.proofs.Indexed.{shop-length, blocks-count, shop-indexable, shop-few, order-length, order-few, order-starts, order-indexable}
-use Rattle.steps.specs.Steps.{Indexed}
+use Rattle.network.specs.Tables.{Indexed}
 use Rattle.replay.specs.OrderTable.{OrderIndexed}
 use Rattle.replay.proofs.Indexing.{ends-filled, ends-kept, starts-filled, starts-kept}
 use Rattle.replay.proofs.first.prepared.Statement.{statement}

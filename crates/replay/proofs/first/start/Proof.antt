@@ -10,7 +10,7 @@ use Rattle.hgn.specs.Meaning.{orderOf}
 use Rattle.hgn.specs.Order as Order
 use Rattle.hgn.specs.State.{State, assign}
 use Rattle.reading.specs.declared.position.Sheet.the-variants as Of
-use Rattle.steps.specs.Entries.{spanRows}
+use Rattle.formulas.specs.Spanned.{spanRows}
 use Rattle.replay.proofs.Firsts.{whole-rows}
 use Rattle.replay.proofs.first.start.Statement.{statement}
 use Rattle.replay.proofs.first.start.Tie as tie

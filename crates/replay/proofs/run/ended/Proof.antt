@@ -4,8 +4,8 @@ use mathlib.Core.Path.{_≡_, refl, sym, _∙_}
 use lib.ListN.{length, length-map}
 use borrow.Author.Needs.{needs}
 use borrow.Author.Tests.{eq-eqb, ne-eqb}
-use Rattle.steps.specs.Entries.{entriesOf}
-use Rattle.steps.proofs.Goals.{entries-length}
+use Rattle.network.specs.Entries.{entriesOf}
+use Rattle.network.proofs.Goals.{entries-length}
 use Rattle.replay.proofs.run.ended.Statement.{statement}
 use Rattle.replay.proofs.run.ended.Tie as tie
 

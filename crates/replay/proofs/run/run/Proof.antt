@@ -12,14 +12,14 @@ use Rattle.hgn.specs.Run.{refused, taken, actionAt, methodAt}
 use Rattle.hgn.specs.Shop.{domain, actionCount, rowCount}
 use Rattle.hgn.specs.Trace.{stepsOf, stepCount}
 use Rattle.hgn.specs.Replay.{refusal}
-use Rattle.steps.specs.Entries.{listOf, entriesOf}
+use Rattle.network.specs.Entries.{listOf, entriesOf}
 use Rattle.steps.specs.Deciding.{toldOf, SeenIn, carried, Room, Taking, Decides}
-use Rattle.steps.proofs.Goals.{list-released}
+use Rattle.network.proofs.Goals.{list-released}
 use Rattle.steps.proofs.Actions.{known-action, known-method}
 use Rattle.steps.proofs.Decided.{seen-in}
 use Rattle.replay.specs.Answers.{answerOf, runAnswer, endAnswer}
-use Rattle.steps.specs.declared.waiting.Entry.{Entry}
-use Rattle.steps.specs.declared.waiting.Waiting.{Waiting}
+use Rattle.network.specs.declared.waiting.Entry.{Entry}
+use Rattle.network.specs.declared.waiting.Waiting.{Waiting}
 use Rattle.steps.specs.declared.moves.Move.{Move}
 use Rattle.steps.specs.declared.moves.Move.the-variants.{Release, Act, Use}
 use Rattle.steps.specs.declared.questions.Decision.the-variants.{Refused, Takes}

@@ -3,7 +3,7 @@ use Prim.Native.Nat.{suc, _-_}
 use native.Mathlib.Omega.{arith}
 use borrow.Author.Needs.{needs}
 use Rattle.hgn.specs.Shop.{domain}
-use Rattle.steps.specs.Entries.{listOf}
+use Rattle.network.specs.Entries.{listOf}
 use Rattle.search.proofs.Depths.{NoneBelow, none-from, found-first, none-yet, none-found}
 use Rattle.search.proofs.call.deepen.Statement.{statement}
 use Rattle.search.proofs.call.deepen.Tie as tie

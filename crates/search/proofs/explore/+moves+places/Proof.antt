@@ -17,11 +17,11 @@ use Rattle.hgn.specs.Trace.{step}
 use Rattle.hgn.proofs.Checked.{shop-actions, shop-methods, shop-counts}
 use Rattle.reading.proofs.Laws.{told}
 use Rattle.scan.proofs.rows.word.Reads as word
-use Rattle.steps.specs.Entries.{listOf}
-use Rattle.steps.proofs.Goals.{list-length}
-use Rattle.steps.proofs.Tables.{shop-passes}
-use Rattle.steps.proofs.free.is_free.Reads as is-free
-use Rattle.steps.proofs.waiting.Waiting.goal.Reads as goal
+use Rattle.network.specs.Entries.{listOf}
+use Rattle.network.proofs.Goals.{list-length}
+use Rattle.network.proofs.Tables.{shop-passes}
+use Rattle.freeness.proofs.free.is_free.Reads as is-free
+use Rattle.network.proofs.waiting.Waiting.goal.Reads as goal
 use Rattle.pruning.specs.Pruned.{movesFrom, placesFrom, prunedOf}
 use Rattle.pruning.proofs.Loops.{places-end, pruned-places, not-free-none}
 use Rattle.search.specs.Founds.{stepsFrom, foundOf}

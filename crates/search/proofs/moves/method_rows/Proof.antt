@@ -1,8 +1,8 @@
 -- A method's rows before its nodes are read along the index. Assumes nothing.
 use native.Mathlib.Omega.{arith}
 use borrow.Author.Needs.{needs}
-use Rattle.steps.proofs.Tables.{starts-fit}
-use Rattle.steps.proofs.Uses.{from-fits, from-few, method-read}
+use Rattle.network.proofs.Tables.{starts-fit}
+use Rattle.network.proofs.Uses.{from-fits, from-few, method-read}
 use Rattle.search.proofs.moves.method_rows.Statement.{statement}
 use Rattle.search.proofs.moves.method_rows.Tie as tie
 

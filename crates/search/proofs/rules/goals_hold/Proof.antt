@@ -6,8 +6,8 @@ use lib.ListN.{length, drop, length-map}
 use borrow.Author.Needs.{needs}
 use Rattle.hgn.specs.Lists.{all}
 use Rattle.hgn.specs.State.{formulaHolds}
-use Rattle.steps.specs.Entries.{listOf}
-use Rattle.steps.proofs.Places.{entry-inside}
+use Rattle.network.specs.Entries.{listOf}
+use Rattle.network.proofs.Places.{entry-inside}
 use Rattle.search.proofs.Lower.{holds-end, holds-not, holds-on}
 use Rattle.search.proofs.rules.goals_hold.Statement.{statement}
 use Rattle.search.proofs.rules.goals_hold.Tie as tie

@@ -9,7 +9,8 @@ use Rattle.hgn.specs.Lists.{any}
 use Rattle.hgn.specs.Meaning.{literals}
 use Rattle.hgn.specs.State.{relevant}
 use Rattle.hgn.specs.Network.{free}
-use Rattle.steps.specs.Entries.{spanRows, listOf}
+use Rattle.formulas.specs.Spanned.{spanRows}
+use Rattle.network.specs.Entries.{listOf}
 use Rattle.search.proofs.Lower.{lower-none, lower-irrelevant, lower-found, lower-held}
 use Rattle.search.proofs.rules.helps_lower.Statement.{statement}
 use Rattle.search.proofs.rules.helps_lower.Tie as tie

@@ -8,7 +8,7 @@ use borrow.Author.Needs.{needs}
 use Rattle.hgn.specs.Shop.{domain}
 use Rattle.hgn.specs.Trace.{step}
 use Rattle.reading.proofs.Laws.{told}
-use Rattle.steps.specs.Entries.{listOf}
+use Rattle.network.specs.Entries.{listOf}
 use Rattle.pruning.specs.Rules.{couldGoFirst}
 use Rattle.search.specs.Trials.{moveNumber}
 use Rattle.search.proofs.Swaps.{could-not-first}

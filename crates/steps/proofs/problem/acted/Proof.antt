@@ -3,7 +3,7 @@ use native.Mathlib.Omega.{arith}
 use mathlib.Core.Path.{ap, _∙_}
 use borrow.Author.Needs.{needs}
 use Rattle.hgn.specs.State.{γ}
-use Rattle.steps.proofs.Tables.{starts-fit}
+use Rattle.network.proofs.Tables.{starts-fit}
 use Rattle.steps.proofs.Decided.{effects-are}
 use Rattle.steps.proofs.problem.acted.Statement.{statement}
 use Rattle.steps.proofs.problem.acted.Tie as tie

@@ -2,8 +2,8 @@
 use native.Mathlib.Omega.{arith}
 use mathlib.Core.Path.{refl}
 use borrow.Author.Needs.{needs}
-use Rattle.steps.proofs.Tables.{starts-fit}
-use Rattle.steps.proofs.Uses.{from-fits, from-few, method-read}
+use Rattle.network.proofs.Tables.{starts-fit}
+use Rattle.network.proofs.Uses.{from-fits, from-few, method-read}
 use Rattle.steps.proofs.Decided.{method-unable, method-irrelevant, method-may, method-crowded}
 use Rattle.steps.proofs.questions.of_method.Statement.{statement}
 use Rattle.steps.proofs.questions.of_method.Tie as tie

@@ -1,7 +1,7 @@
 -- Each move's own questions, by its cases; an action's rows stand from its start up to the next. Assumes nothing.
 use native.Mathlib.Omega.{arith}
 use borrow.Author.Needs.{needs}
-use Rattle.steps.proofs.Tables.{starts-fit}
+use Rattle.network.proofs.Tables.{starts-fit}
 use Rattle.steps.proofs.Actions.{known-action, known-method}
 use Rattle.steps.proofs.Decided.{question-release, question-action, question-method}
 use Rattle.steps.proofs.questions.of_move.Statement.{statement}

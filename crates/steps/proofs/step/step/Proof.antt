@@ -6,9 +6,9 @@ use mathlib.Core.List.{List}
 use lib.ListN.{length, length-map}
 use borrow.Author.Needs.{needs}
 use Rattle.hgn.specs.Shop.{domain}
-use Rattle.steps.specs.Entries.{listOf}
+use Rattle.network.specs.Entries.{listOf}
 use Rattle.steps.specs.Deciding.{SeenIn, Room, Taking, Decides}
-use Rattle.steps.specs.declared.waiting.Entry.{Entry}
+use Rattle.network.specs.declared.waiting.Entry.{Entry}
 use Rattle.steps.specs.declared.moves.Move.{Move}
 use Rattle.steps.specs.declared.questions.Decision.the-variants.{Takes}
 use Rattle.steps.specs.declared.problem.Problem.{Problem}

@@ -3,7 +3,7 @@ use native.Mathlib.Omega.{arith}
 use mathlib.Core.Path.{_≡_, ap}
 use lib.ListN.{length, length-map}
 use borrow.Author.Needs.{needs}
-use Rattle.steps.specs.declared.waiting.Entry.{Entry}
+use Rattle.network.specs.declared.waiting.Entry.{Entry}
 use Rattle.steps.proofs.Taken.{move-room, move-taken, move-refused}
 use Rattle.steps.proofs.step.take_move.Statement.{statement}
 use Rattle.steps.proofs.step.take_move.Tie as tie

@@ -4,8 +4,8 @@ use native.Mathlib.Omega.{arith}
 use borrow.Author.Needs.{needs}
 use Rattle.hgn.specs.Shop.{domain}
 use Rattle.hgn.proofs.Checked.{shop-counts}
-use Rattle.steps.specs.Entries.{listOf}
-use Rattle.steps.proofs.Tables.{shop-passes}
+use Rattle.network.specs.Entries.{listOf}
+use Rattle.network.proofs.Tables.{shop-passes}
 use Rattle.needed.specs.Gathered.{Holds}
 use Rattle.needed.proofs.Gathering.{place-known, place-needed}
 use Rattle.needed.proofs.least.Gathered.closed.Statement.{statement}

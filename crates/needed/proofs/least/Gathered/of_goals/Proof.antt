@@ -5,7 +5,7 @@ use mathlib.Core.Path.{_≡_}
 use lib.ListN.{length, length-map}
 use borrow.Author.Needs.{needs}
 use Rattle.hgn.specs.Meaning.{Domain}
-use Rattle.steps.specs.Entries.{listOf}
+use Rattle.network.specs.Entries.{listOf}
 use Rattle.needed.specs.Tables.{OnlyMakers}
 use Rattle.needed.specs.Gathered.{Holds}
 use Rattle.needed.proofs.Wants.{entry-wanted}

@@ -4,8 +4,8 @@ use mathlib.Core.Path.{ap, sym, _∙_}
 use lib.ListN.{length, length-map}
 use borrow.Author.Needs.{needs}
 use Rattle.hgn.proofs.Checked.{shop-counts, shop-actions, shop-methods}
-use Rattle.steps.proofs.Tables.{shop-passes}
-use Rattle.steps.proofs.Entered.{nodeAt}
+use Rattle.network.proofs.Tables.{shop-passes}
+use Rattle.network.proofs.Entered.{nodeAt}
 use Rattle.reading.specs.declared.position.Sheet.the-variants as Of
 use Rattle.needed.proofs.Gathering.{method-added}
 use Rattle.needed.proofs.Brings.{method-needed}

@@ -4,8 +4,8 @@ use mathlib.Core.Path.{subst}
 use borrow.Author.Needs.{needs}
 use Rattle.hgn.specs.Shop.{domain}
 use Rattle.hgn.proofs.Checked.{shop-counts}
-use Rattle.steps.specs.Entries.{listOf}
-use Rattle.steps.proofs.Tables.{shop-passes}
+use Rattle.network.specs.Entries.{listOf}
+use Rattle.network.proofs.Tables.{shop-passes}
 use Rattle.pruning.specs.Needed.{Needed}
 use Rattle.needed.proofs.Gathering.{block-below, block-method}
 use Rattle.needed.proofs.least.Gathered.with_move.Statement.{statement}

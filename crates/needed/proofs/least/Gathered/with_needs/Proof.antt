@@ -5,7 +5,7 @@ use borrow.Author.Needs.{needs}
 use Rattle.hgn.specs.Meaning.{literals}
 use Rattle.hgn.specs.Shop.{domain}
 use Rattle.hgn.proofs.Checked.{shop-counts}
-use Rattle.steps.proofs.Tables.{shop-passes, starts-fit}
+use Rattle.network.proofs.Tables.{shop-passes, starts-fit}
 use Rattle.needed.specs.Gathered.{WantedAll}
 use Rattle.needed.proofs.Wants.{span-rows, block-wanted}
 use Rattle.needed.proofs.least.Gathered.with_needs.Statement.{statement}

@@ -8,8 +8,8 @@ use Rattle.hgn.specs.Network.{Waiting}
 use Rattle.hgn.specs.Run.{use-method}
 use Rattle.hgn.specs.Shop.{domain}
 use Rattle.hgn.proofs.Checked.{shop-counts}
-use Rattle.steps.proofs.Tables.{shop-passes}
-use Rattle.steps.proofs.NodeWalks.{ahead}
+use Rattle.network.proofs.Tables.{shop-passes}
+use Rattle.network.proofs.NodeWalks.{ahead}
 use Rattle.needed.specs.Gathered.{Onward}
 use Rattle.needed.proofs.Brings.{NodesLeft, nodes-all, nodes-next, node-here, node-wanted}
 use Rattle.needed.proofs.least.Gathered.with_nodes.Statement.{statement}

@@ -1,0 +1,3 @@
+-- The rows of a part, and the literals that a test of relevance looks for.
+pub mod Spanned
+pub mod Wanted

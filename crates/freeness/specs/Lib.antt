@@ -1,0 +1,2 @@
+-- What is seen at a place of the waiting list.
+pub mod Seeing

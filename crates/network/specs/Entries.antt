@@ -1,0 +1,68 @@
+-- Waiting goals as the code keeps them: by their rows, their names and their parents' names. Document 01, "How a derivation runs".
+use Prim.Native.Nat.{ℕ, suc, _+_}
+use mathlib.Core.Path.{_≡_}
+use mathlib.Core.Bool.{Bool, false, cond, _&&_}
+use mathlib.Core.List.{List, _++_, map}
+use mathlib.Core.Option.{none, some}
+use lib.Dec.{eqb}
+use lib.ListN.{take, drop, getD}
+use Rattle.hgn.specs.Lists.{below}
+use Rattle.hgn.specs.Rows as Rows
+use Rattle.hgn.specs.Tag as Tag
+use Rattle.hgn.specs.Meaning.{nodeOf}
+use Rattle.hgn.specs.Network as Network
+use Rattle.formulas.specs.Spanned.{spanRows}
+use Rattle.reading.specs.declared.position.Sheet.the-variants as Of
+use Rattle.network.specs.declared.waiting.Name.{Name}
+use Rattle.network.specs.declared.waiting.Entry.{Entry}
+use Rattle.network.specs.declared.waiting.Waiting.{Waiting}
+
+-- The origin that stands for the order.
+abbrev pub orderOrigin : ℕ
+orderOrigin = 65535
+
+abbrev pub originOf : ℕ → Network.Origin
+originOf o = cond (eqb o orderOrigin) Network.order (Network.step o)
+
+abbrev pub nameOf : Name → Network.Name
+nameOf n = record { origin = originOf (n .origin); number = n .number }
+
+abbrev pub sameName : Name → Name → Bool
+sameName a b = eqb (a .origin) (b .origin) && eqb (a .number) (b .number)
+
+-- A waiting goal of the code, as the definitions have it.
+unfoldable pub waitingOf : List ℕ → List ℕ → Entry → Network.Waiting
+waitingOf shop order e = record {
+  name = nameOf (e .name);
+  parent = cond (eqb (e .name .origin) orderOrigin) none (some (nameOf (e .parent)));
+  after = cond (e .last) (below (e .name .number)) (Rows.valuesOf Tag.after (spanRows shop order (e .rows)));
+  formula = nodeOf (spanRows shop order (e .rows)) .formula;
+}
+
+-- No goal.
+abbrev pub noEntry : Entry
+noEntry = record {
+  rows = record { sheet = Of.Order; from = 0; to = 0 };
+  name = record { origin = orderOrigin; number = 0 };
+  parent = record { origin = orderOrigin; number = 0 };
+  last = false;
+}
+
+-- The goals in the order of their places.
+abbrev pub entriesOf : Waiting → List Entry
+entriesOf w = take (w .count) (w .entries)
+
+abbrev pub listOf : List ℕ → List ℕ → Waiting → List Network.Waiting
+listOf shop order w = map (waitingOf shop order) (entriesOf w)
+
+abbrev pub entryAt : Waiting → ℕ → Entry
+entryAt w p = getD (entriesOf w) p noEntry
+
+-- The list without the goal at a place.
+abbrev pub without : List Entry → ℕ → List Entry
+without l p = take p l ++ drop (suc p) l
+
+-- Room opened for `more` goals directly before place `p`: the goals before it and from it on stand on either side.
+pub record Opened (l : List Entry) (p more : ℕ) (r : List Entry) : Type 0 where
+  pub before : take p r ≡ take p l
+  pub behind : drop (p + more) r ≡ drop p l
