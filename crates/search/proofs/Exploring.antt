@@ -32,10 +32,11 @@ use Rattle.pruning.specs.Rules.{ready, idle}
 use Rattle.pruning.specs.Pruned.{prunedOf, moveAt, movesFrom, placesFrom}
 use Rattle.pruning.proofs.Loops.{moves-count, moves-next, moves-end, places-next}
 use Rattle.search.specs.Founds.{stepsFrom, foundOf}
-use Rattle.search.specs.Trials.{nthMove, moveNumber, wanted, crowded, opens, Tries, tried}
+use Rattle.reasons.specs.Tests.{nthMove, moveNumber, wanted, crowded}
+use Rattle.search.specs.Trials.{opens, Tries, tried}
 use Rattle.search.specs.declared.found.Found.{Found}
 use Rattle.search.specs.declared.trial.Tried.{Tried}
-use Rattle.search.proofs.Reading.{number-read}
+use Rattle.reasons.proofs.Reading.{number-read}
 use Rattle.search.proofs.Trying.{open-not-idle, closed-none}
 
 -- What was found, or not.

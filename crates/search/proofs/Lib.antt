@@ -1,8 +1,4 @@
--- Laws of the rules, of the search and of its call, in the shape that the code asks for.
-pub mod Reading
-pub mod Asked
-pub mod Lower
-pub mod Swaps
+-- Laws of the search and of its call, in the shape that the code asks for.
 pub mod Trying
 pub mod Exploring
 pub mod Depths

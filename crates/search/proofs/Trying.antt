@@ -7,7 +7,6 @@ use mathlib.Core.List.{List, _∷_}
 use mathlib.Core.Option.{Option, none, Option·map}
 use mathlib.Core.Logic.{_⊎_, inl, inr}
 use lib.ListN.{length}
-use lib.Dec.{ltb}
 use borrow.Author.Tests.{ltb-true, lt-ltb, eq-eqb, ne-eqb}
 use Rattle.hgn.specs.Meaning.{Domain, networkOf}
 use Rattle.hgn.specs.State.{State}
@@ -28,14 +27,14 @@ use Rattle.steps.specs.Steps as Spec
 use Rattle.network.specs.Tables.{Indexed}
 use Rattle.steps.specs.Steps.{ifFree, steppedOf, doneOf}
 use Rattle.steps.specs.declared.moves.Move as Moves
-use Rattle.steps.specs.declared.moves.Move.the-variants.{Release, Act, Use}
 use Rattle.steps.specs.declared.problem.Problem.{Problem}
 use Rattle.steps.specs.declared.problem.Stepped as Code
 use Rattle.network.proofs.Goals.{list-length}
 use Rattle.steps.proofs.Bodies.{step-body}
-use Rattle.search.specs.Trials.{moveNumber, wanted, crowded, opens, Tries}
+use Rattle.reasons.specs.Tests.{moveNumber, wanted, crowded}
+use Rattle.search.specs.Trials.{opens, Tries}
 use Rattle.search.specs.declared.trial.Tried.{Tried}
-use Rattle.search.proofs.Reading.{number-read}
+use Rattle.reasons.proofs.Reading.{number-read}
 
 -- What the tests say of a move that was taken: it was asked nothing that fails, and if it was crowded too few steps are left.
 module _ {limit : ℕ} {d : Domain} {n : ℕ} {s : State} {w : List Waiting} {p : ℕ} where
@@ -69,20 +68,6 @@ open-not-idle false true true true e = sym e
 open-not-idle false true false i e = absurd (false-not-true _ refl e)
 open-not-idle false false b i e = absurd (false-not-true _ refl e)
 open-not-idle true a b i e = absurd (false-not-true _ refl e)
-
--- The test of crowding, by the kind of the move.
-module _ (left count : ℕ) {m : Moves.Move} where
-  pub crowded-release : m ≡ Release → ltb (left + 1) count ≡ crowded left count (knownOf m)
-  unfolding crowded
-  crowded-release e = rw e refl
-
-  pub crowded-action : {k : ℕ} → m ≡ Act k → ltb left count ≡ crowded left count (knownOf m)
-  unfolding crowded
-  crowded-action e = rw e refl
-
-  pub crowded-method : {k : ℕ} → m ≡ Use k → ltb left count ≡ crowded left count (knownOf m)
-  unfolding crowded
-  crowded-method e = rw e refl
 
 -- The code's four questions of a move.
 module _ (d : Domain) (s : State) (g : Waiting) (left count : ℕ) (m : Move) {c : Bool} (e : c ≡ crowded left count m) where

@@ -1,11 +1,11 @@
 // The search by places and moves: the place routine calls the move routine, which calls the place routine again with one step fewer.
 // Document 01, "How a derivation runs".
 use crate::found::Found;
-use crate::moves;
 use crate::trial;
 use freeness::free;
 use network::waiting::Entry;
 use network::waiting::Place;
+use reasons::moves;
 use scan::rows::word;
 use steps::moves::Move;
 use steps::problem::Problem;
@@ -20,7 +20,8 @@ ghost use Rattle.network.specs.Tables.{Indexed};
 ghost use Rattle.steps.specs.Moves.{Known};
 ghost use Rattle.pruning.specs.Pruned.{prunedOf, movesFrom};
 ghost use Rattle.search.specs.Founds.{foundOf};
-ghost use Rattle.search.specs.Trials.{moveNumber, tried};
+ghost use Rattle.reasons.specs.Tests.{moveNumber};
+ghost use Rattle.search.specs.Trials.{tried};
 
 // The first trace of so many steps from a record on, none of them left out. The last step was taken from the record `before`.
 pub fn places<'a>(

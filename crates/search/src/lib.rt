@@ -3,6 +3,4 @@
 pub mod call;
 pub mod explore;
 pub mod found;
-pub mod moves;
-pub mod rules;
 pub mod trial;

@@ -1,7 +1,7 @@
 // One step of the search: taken, if it may be and is not left out.
-use crate::rules;
 use network::waiting::Entry;
 use network::waiting::Place;
+use reasons::rules;
 use steps::moves::Move;
 use steps::problem::Problem;
 use steps::step;
@@ -15,7 +15,8 @@ ghost use Rattle.network.specs.Entries.{listOf, waitingOf};
 ghost use Rattle.network.specs.Tables.{Indexed};
 ghost use Rattle.steps.specs.Moves.{Known, knownOf};
 ghost use Rattle.pruning.specs.Rules.{idle};
-ghost use Rattle.search.specs.Trials.{moveNumber, opens, Tries};
+ghost use Rattle.reasons.specs.Tests.{moveNumber};
+ghost use Rattle.search.specs.Trials.{opens, Tries};
 
 // A step that was taken and kept, with the record that it leaves; or the record as it was.
 pub struct Tried {

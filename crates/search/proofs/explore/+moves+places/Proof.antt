@@ -25,11 +25,12 @@ use Rattle.network.proofs.waiting.Waiting.goal.Reads as goal
 use Rattle.pruning.specs.Pruned.{movesFrom, placesFrom, prunedOf}
 use Rattle.pruning.proofs.Loops.{places-end, pruned-places, not-free-none}
 use Rattle.search.specs.Founds.{stepsFrom, foundOf}
-use Rattle.search.specs.Trials.{moveNumber, tried}
-use Rattle.search.proofs.Reading.{number-fits}
+use Rattle.reasons.specs.Tests.{moveNumber}
+use Rattle.search.specs.Trials.{tried}
+use Rattle.reasons.proofs.Reading.{number-fits}
 use Rattle.search.proofs.Exploring.{found-none, found-some, found-at-end, nth-known, nth-past, nth-found, moves-done, place-past, place-found, goal-here, find-closed, find-open, find-out, find-none, find-some}
-use Rattle.search.proofs.moves.nth.Reads as nth
-use Rattle.search.proofs.moves.number_of.Reads as number-of
+use Rattle.reasons.proofs.moves.nth.Reads as nth
+use Rattle.reasons.proofs.moves.number_of.Reads as number-of
 use Rattle.search.proofs.found.Found.with.Reads as with
 use Rattle.search.proofs.found.Found.empty.Reads as empty
 use Rattle.search.proofs.trial.open_at.Reads as open-at

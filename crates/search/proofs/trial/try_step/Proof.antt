@@ -10,8 +10,8 @@ use Rattle.hgn.specs.Trace.{step}
 use Rattle.reading.proofs.Laws.{told}
 use Rattle.network.specs.Entries.{listOf}
 use Rattle.pruning.specs.Rules.{couldGoFirst}
-use Rattle.search.specs.Trials.{moveNumber}
-use Rattle.search.proofs.Swaps.{could-not-first}
+use Rattle.reasons.specs.Tests.{moveNumber}
+use Rattle.reasons.proofs.Swaps.{could-not-first}
 use Rattle.search.proofs.Trying.{tries-first, tries-lower, tries-refused, tries-few, tries-kept}
 use Rattle.search.proofs.trial.try_step.Statement.{statement}
 use Rattle.search.proofs.trial.try_step.Tie as tie

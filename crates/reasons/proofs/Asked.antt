@@ -1,0 +1,133 @@
+-- The tests of a move, by its cases: an action and a method by the rows that the tables tell. Assumes nothing.
+use Prim.Native.Nat.{ℕ, _+_, _<_, _≤_}
+use native.Mathlib.Omega.{arith}
+use mathlib.Core.Path.{_≡_, refl, sym, ap, ap₂, _∙_}
+use mathlib.Core.Bool.{Bool, true, false, _&&_}
+use mathlib.Core.List.{List, zipWith}
+use lib.Dec.{ltb}
+use lib.ListN.{length, take}
+use Rattle.hgn.specs.Lists.{any}
+use Rattle.hgn.specs.Rows.{row}
+use Rattle.hgn.specs.Meaning.{Action, Literal, literals, nodeOf, actionOf}
+use Rattle.hgn.specs.State.{State, γ, allHold, formulaHolds, relevant}
+use Rattle.hgn.specs.Network as Network
+use Rattle.hgn.specs.Network.{free}
+use Rattle.hgn.specs.Run.{actionAt, methodAt}
+use Rattle.hgn.specs.Shop.{domain, actionCount, methodCount}
+use Rattle.spans.specs.Index.{tagsOf, valuesOf}
+use Rattle.spans.specs.declared.index.Span.{Span}
+use Rattle.formulas.specs.Spanned.{spanRows}
+use Rattle.network.specs.Entries.{waitingOf}
+use Rattle.steps.specs.Moves.{Known, knownOf}
+use Rattle.network.specs.Tables.{Indexed}
+use Rattle.steps.specs.declared.moves.Move.{Move}
+use Rattle.steps.specs.declared.moves.Move.the-variants.{Release, Act, Use}
+use Rattle.network.specs.declared.waiting.Entry.{Entry}
+use Rattle.network.proofs.Tables.{starts-fit}
+use Rattle.steps.proofs.Actions.{known-action, action-rows}
+use Rattle.pruning.specs.Rules.{ready, idle, lowerToo, stateAfter}
+use Rattle.needed.specs.Tables.{actionSpan}
+use Rattle.reasons.specs.Tests.{wanted, crowded}
+
+-- A release.
+module _ (shop : List ℕ) {m : Move} (e : m ≡ Release) where
+  pub ready-release : (order : List ℕ) {r : Bool} (s : State) (g : Entry) → r ≡ formulaHolds s (nodeOf (spanRows shop order (g .rows)) .formula)
+      → r ≡ ready (domain shop) s (waitingOf shop order g) (knownOf m)
+  unfolding ready waitingOf
+  ready-release order s g p = rw e p
+
+  pub wanted-release : (g : Network.Waiting) → true ≡ wanted (domain shop) g (knownOf m)
+  unfolding wanted
+  wanted-release g = rw e
+
+  pub idle-release : (s : State) → false ≡ idle (domain shop) s (knownOf m)
+  unfolding idle
+  idle-release s = rw e
+
+  pub lower-release : (w : List Network.Waiting) (p : ℕ) → false ≡ lowerToo (domain shop) w p (knownOf m)
+  unfolding lowerToo
+  lower-release w p = rw e
+
+  pub after-release : (s : State) → s ≡ stateAfter (domain shop) s (knownOf m)
+  unfolding stateAfter
+  after-release s = rw e
+
+-- A method.
+module _ (shop : List ℕ) {m : Move} {k : ℕ} (e : m ≡ Use k) where
+  pub ready-method : (order : List ℕ) {r : Bool} (s : State) (g : Network.Waiting) (rows : Span) → literals 3 4 (spanRows shop order rows) ≡ methodAt (domain shop) k .needs
+      → r ≡ allHold s (literals 3 4 (spanRows shop order rows)) → r ≡ ready (domain shop) s g (knownOf m)
+  unfolding ready
+  ready-method order s g rows n p = rw e (p ∙ ap (allHold s) n)
+
+  pub wanted-method : (g : Network.Waiting) → true ≡ wanted (domain shop) g (knownOf m)
+  unfolding wanted
+  wanted-method g = rw e
+
+  pub idle-method : (s : State) → false ≡ idle (domain shop) s (knownOf m)
+  unfolding idle
+  idle-method s = rw e
+
+  pub lower-method : (w : List Network.Waiting) (p : ℕ) → false ≡ lowerToo (domain shop) w p (knownOf m)
+  unfolding lowerToo
+  lower-method w p = rw e
+
+  pub after-method : (s : State) → s ≡ stateAfter (domain shop) s (knownOf m)
+  unfolding stateAfter
+  after-method s = rw e
+
+-- An action, with the rows that the table of starts tells.
+module _ {shop order endTable startTable : List ℕ} (ix : Indexed shop order endTable startTable) {m : Move} {k : ℕ}
+    (h : Known (actionCount shop) (methodCount shop) m) (e : m ≡ Act k) where
+  pub action-inside : (1 ≤ k) × (k < length startTable)
+  action-inside = let a = known-action ix h e in (a .0, omega (arith, starts-fit ix))
+
+  module _ {rows : Span} (t : rows ≡ actionSpan startTable k) where
+    action-is : actionAt (domain shop) k ≡ actionOf (spanRows shop order rows)
+    action-is = let a = known-action ix h e in action-rows ix k (a .0) (a .1) ∙ ap (λ (x : Span). actionOf (spanRows shop order x)) (sym t)
+
+    needs-are : literals 3 4 (spanRows shop order rows) ≡ actionAt (domain shop) k .needs
+    unfolding actionOf
+    needs-are = ap (λ (a : Action). a .needs) (sym action-is)
+
+    effects-are : literals 5 6 (spanRows shop order rows) ≡ actionAt (domain shop) k .effects
+    unfolding actionOf
+    effects-are = ap (λ (a : Action). a .effects) (sym action-is)
+
+    pub ready-action : {r : Bool} (s : State) (g : Network.Waiting) → r ≡ allHold s (literals 3 4 (spanRows shop order rows))
+        → r ≡ ready (domain shop) s g (knownOf m)
+    unfolding ready
+    ready-action s g p = rw e (p ∙ ap (allHold s) needs-are)
+
+    pub wanted-action : {r : Bool} (g : Entry) → r ≡ relevant (literals 5 6 (spanRows shop order rows)) (nodeOf (spanRows shop order (g .rows)) .formula)
+        → r ≡ wanted (domain shop) (waitingOf shop order g) (knownOf m)
+    unfolding wanted waitingOf
+    wanted-action g p = rw e (p ∙ ap (λ (l : List Literal). relevant l (nodeOf (spanRows shop order (g .rows)) .formula)) effects-are)
+
+    pub idle-action : {r : Bool} (s : State) {ts vs : List ℕ} → ts ≡ tagsOf rows shop order → vs ≡ valuesOf rows shop order
+        → r ≡ allHold s (literals 5 6 (zipWith row ts vs)) → r ≡ idle (domain shop) s (knownOf m)
+    unfolding idle spanRows
+    idle-action s a b p =
+        rw e (p ∙ ap₂ (λ (x y : List ℕ). allHold s (literals 5 6 (zipWith row x y))) a b ∙ ap (allHold s) effects-are)
+
+    pub lower-action : {r : Bool} (w : List Network.Waiting) (p : ℕ)
+        → r ≡ any (λ g. relevant (literals 5 6 (spanRows shop order rows)) (g .formula) && free w g) (take p w) → r ≡ lowerToo (domain shop) w p (knownOf m)
+    unfolding lowerToo
+    lower-action w p q = rw e (q ∙ ap (λ (l : List Literal). any (λ g. relevant l (g .formula) && free w g) (take p w)) effects-are)
+
+    pub after-action : {r : State} (s : State) → r ≡ γ s (literals 5 6 (spanRows shop order rows)) → r ≡ stateAfter (domain shop) s (knownOf m)
+    unfolding stateAfter
+    after-action s p = rw e (p ∙ ap (γ s) effects-are)
+
+-- The test of crowding, by the kind of the move.
+module _ (left count : ℕ) {m : Move} where
+  pub crowded-release : m ≡ Release → ltb (left + 1) count ≡ crowded left count (knownOf m)
+  unfolding crowded
+  crowded-release e = rw e refl
+
+  pub crowded-action : {k : ℕ} → m ≡ Act k → ltb left count ≡ crowded left count (knownOf m)
+  unfolding crowded
+  crowded-action e = rw e refl
+
+  pub crowded-method : {k : ℕ} → m ≡ Use k → ltb left count ≡ crowded left count (knownOf m)
+  unfolding crowded
+  crowded-method e = rw e refl

@@ -1,0 +1,87 @@
+-- What the number of a known move reads as, and which of two steps goes first. Assumes nothing.
+use Prim.Native.Nat.{ℕ, suc, _+_, _-_, _<_, _≤_}
+use native.Mathlib.Omega.{arith}
+use mathlib.Core.Path.{_≡_, refl, subst}
+use mathlib.Core.Bool.{Bool, true, false, cond, _&&_, _||_}
+use mathlib.Core.List.{List}
+use lib.Dec.{eqb, ltb}
+use borrow.Author.Tests.{eq-eqb, ne-eqb, lt-ltb, le-ltb}
+use Rattle.hgn.specs.Run as Run
+use Rattle.hgn.specs.Run.{moveOf}
+use Rattle.hgn.specs.Shop.{domain, actionCount, methodCount}
+use Rattle.hgn.specs.Trace.{step}
+use Rattle.hgn.proofs.Moves.{reads-action, reads-method}
+use Rattle.hgn.proofs.Checked.{shop-actions, shop-methods, shop-counts}
+use Rattle.steps.specs.Moves.{Known, knownOf}
+use Rattle.network.specs.Tables.{Indexed}
+use Rattle.steps.specs.declared.moves.Move.{Move}
+use Rattle.steps.specs.declared.moves.Move.the-variants.{Release, Act, Use}
+use Rattle.network.proofs.Tables.{shop-passes}
+use Rattle.pruning.specs.Rules.{isAction, goesFirst}
+use Rattle.reasons.specs.Tests.{moveNumber, actionNumber, before}
+
+and-no : (b : Bool) → false ≡ (b && false)
+and-no true = refl
+and-no false = refl
+
+and-yes : (b : Bool) → b ≡ (b && true)
+and-yes true = refl
+and-yes false = refl
+
+-- Of two known moves both are actions and the first the lower, by their numbers.
+lower-first : (actions methods : ℕ) (x y : Move) → Known actions methods x → Known actions methods y
+    → cond (ltb 0 (actionNumber x)) (ltb (actionNumber x) (actionNumber y)) false
+    ≡ (ltb (moveNumber x) (moveNumber y) && (isAction (knownOf x) && isAction (knownOf y)))
+unfolding isAction
+lower-first actions methods Release y h k = and-no (ltb 0 (moveNumber y))
+lower-first actions methods (Act i) Release h k = rw (lt-ltb 0 i (h .0), le-ltb i 0 (omega arith))
+lower-first actions methods (Act i) (Act j) h k = rw (lt-ltb 0 i (h .0)) (and-yes (ltb i j))
+lower-first actions methods (Act i) (Use j) h k = rw (lt-ltb 0 i (h .0), le-ltb i 0 (omega arith)) (and-no (ltb i (Run.firstMethod + j)))
+lower-first actions methods (Use i) y h k = and-no (ltb (Run.firstMethod + i) (moveNumber y))
+
+by-tests : (a b : Bool) {c e : Bool} → c ≡ e → cond a true (cond b c false) ≡ (a || (b && e))
+by-tests true b p = refl
+by-tests false true p = p
+by-tests false false p = refl
+
+-- `before` test by test, as the code asks.
+module _ (y : Move) (q : ℕ) (x : Move) (p : ℕ) where
+  pub before-below : p < q → true ≡ before y q x p
+  before-below h = rw (lt-ltb p q h)
+
+  pub before-above : q ≤ p → (p ≡ q → ⊥) → false ≡ before y q x p
+  before-above h n = rw (le-ltb p q h, ne-eqb p q n)
+
+  module _ (e : p ≡ q) {a : ℕ} (r : a ≡ actionNumber x) where
+    pub before-other : a ≤ 0 → false ≡ before y q x p
+    before-other h = rw (le-ltb p q (omega arith), eq-eqb p q e, le-ltb 0 (actionNumber x) (omega arith))
+
+    pub before-action : 0 < a → {b : ℕ} → b ≡ actionNumber y → ltb a b ≡ before y q x p
+    before-action h t = rw (r, t, le-ltb p q (omega arith), eq-eqb p q e, lt-ltb 0 (actionNumber x) (omega arith))
+
+module _ {shop order endTable startTable : List ℕ} (ix : Indexed shop order endTable startTable) where
+  abbrev Moves : Move → Type 0
+  Moves m = Known (actionCount shop) (methodCount shop) m
+
+  pub number-read : (m : Move) → Moves m → moveOf (domain shop) (moveNumber m) ≡ knownOf m
+  unfolding moveOf
+  number-read Release h = refl
+  number-read (Act k) h =
+      let z : suc (k - 1) ≡ k = omega arith in
+      subst (λ k. moveOf (domain shop) k ≡ Run.act k) z
+      (reads-action (domain shop) (k - 1) (omega (arith, shop-counts shop (shop-passes ix) .0)))
+  number-read (Use k) h =
+      reads-method (domain shop) k (shop-actions shop (shop-passes ix)) (omega (arith, shop-counts shop (shop-passes ix) .1))
+
+  -- A move's number is a word.
+  pub number-fits : (m : Move) → Moves m → moveNumber m < 65536
+  number-fits Release h = omega arith
+  number-fits (Act k) h = omega (arith, shop-counts shop (shop-passes ix) .0, shop-actions shop (shop-passes ix))
+  number-fits (Use k) h = omega (arith, shop-counts shop (shop-passes ix) .1, shop-methods shop (shop-passes ix))
+
+  pub before-is : (y : Move) (q : ℕ) (x : Move) (p : ℕ) → Moves y → Moves x
+      → before y q x p ≡ goesFirst (domain shop) (step (moveNumber y) q) (step (moveNumber x) p)
+  unfolding goesFirst
+  before-is y q x p h k =
+      rw (number-read x k, number-read y h)
+      (by-tests (ltb p q) (eqb p q) (lower-first (actionCount shop) (methodCount shop) x y k h))

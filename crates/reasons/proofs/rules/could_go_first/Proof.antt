@@ -1,0 +1,28 @@
+-- The questions are the definition's, in its order. Assumes nothing.
+use borrow.Author.Needs.{needs}
+use Rattle.reasons.proofs.Swaps.{could-not-first, could-not-free, could-asked}
+use Rattle.reasons.proofs.rules.could_go_first.Statement.{statement}
+use Rattle.reasons.proofs.rules.could_go_first.Tie as tie
+
+pub could-go-first-spec : {M : Type 1} → statement M
+could-go-first-spec =
+    tie.close
+    (tie.spec
+    (λ c κs. search needs)
+    (λ c κs. c .before .before .before .before .before .before .before .pre .0 .1)
+    (λ c κs. c .before .before .before .before .before .before .before .before .before .before .pre .0 .1)
+    (λ c κs. c .before .before .before .before .before .before .before .before .before .before .before .pre .0 .1)
+    (λ c κs. let s = c .before .before .before .before .before .before .before .before .before .before .before .before in (s .pre .0 .0, s .pre .1 .0, s .pre .1 .1))
+    (λ c.
+    let s = c .before .before .before .before .before .before .before .before .before .before .before .before .before in
+    let a = s .args in
+    could-asked (s .pre .0 .0) (a .before .atoms) (a .before .waiting) (a .last) (a .last-place .0) (a .mv) (a .place .0) (s .pre .1 .0) (s .pre .1 .1) (c .before .before .before .before .before .before .before .before .goes-first .ensures) (c .before .before .before .before .before .before .before .if1 .taken) (c .before .before .before .before .before .is-free .ensures) (c .before .before .before .before .if2 .taken)
+    (c .before .before .goal .ensures) (c .before .goal2 .ensures) (c .swap-ready .ensures))
+    (λ c.
+    let s = c .before .before .before .before .before .before .before .before .before in
+    let a = s .args in
+    could-not-free (s .pre .0 .0) (a .before .atoms) (a .before .waiting) (a .last) (a .last-place .0) (a .mv) (a .place .0) (s .pre .1 .0) (s .pre .1 .1) (c .before .before .before .before .goes-first .ensures) (c .before .before .before .if1 .taken) (c .before .is-free .ensures) (c .if2 .left))
+    (λ c.
+    let s = c .before .before .before .before .before .before in
+    let a = s .args in
+    could-not-first (s .pre .0 .0) (a .before .atoms) (a .before .waiting) (a .last) (a .last-place .0) (a .mv) (a .place .0) (s .pre .1 .0) (s .pre .1 .1) (c .before .goes-first .ensures) (c .if1 .left)))

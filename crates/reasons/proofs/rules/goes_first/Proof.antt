@@ -1,0 +1,19 @@
+-- The tests are the definition's, in its order. Assumes nothing.
+use borrow.Author.Needs.{needs}
+use Rattle.reasons.proofs.Reading.{before-below, before-above, before-other, before-action}
+use Rattle.reasons.proofs.rules.goes_first.Statement.{statement}
+use Rattle.reasons.proofs.rules.goes_first.Tie as tie
+
+pub goes-first-spec : {M : Type 1} → statement M
+goes-first-spec =
+    tie.close
+    (tie.spec
+    (λ c. let a = c .before .before .before .args in before-below (a .last) _ (a .mv) _ (c .if1 .taken))
+    (λ c κs. search needs)
+    (λ c κs. search needs)
+    (λ c.
+    let a = c .before .before .before .before .before .before .before .before .before .args in
+    before-action (a .last) _ (a .mv) _ (c .before .before .before .if2 .taken) (c .before .before .action-of .ensures) (c .before .if3 .taken) (c .action-of2 .ensures))
+    (λ c.
+    let a = c .before .before .before .before .before .before .before .before .args in before-other (a .last) _ (a .mv) _ (c .before .before .if2 .taken) (c .before .action-of .ensures) (c .if3 .left))
+    (λ c. let a = c .before .before .before .before .before .before .args in before-above (a .last) _ (a .mv) _ (c .before .before .before .if1 .left) (c .if2 .left)))

@@ -1,0 +1,2 @@
+-- What the code's moves and tests mean.
+pub mod Tests
