@@ -8,7 +8,7 @@ use scan::rows::Row;
 use scan::rows::word;
 use steps::moves::Move;
 use steps::problem::Problem;
-use steps::problem::acted;
+use steps::problem::act;
 use steps::questions::Decision;
 use steps::questions::decide;
 use steps::questions::told;
@@ -84,8 +84,7 @@ pub fn run<'a>(
                     waiting = next;
                 }
                 Move::Act(action) => {
-                    let next = acted(atoms, shop, order, starts, action);
-                    atoms = next;
+                    act(&mut atoms, shop, order, starts, action);
                     let price = cost_of(shop, starts, rows, action);
                     count += 1;
                     cost += price as u32;

@@ -53,29 +53,36 @@ impl Stepped {
     }
 }
 
-// The state after an action with these rows: less what it makes false, with what it makes true.
-pub fn changed<'a>(atoms: [bool; 256], shop: &'a [u16], order: &'a [u16], rows: Span) -> [bool; 256]
-    ensures { λ r. ⌜ r ≡ γ atoms (literals 5 6 (spanRows (now (shop .entry)) (now (order .entry)) rows)) ⌝ }
+// An action with these rows changes the state where it stands: less what it makes false, with what it makes true.
+pub fn change<'a>(atoms: &mut [bool; 256], shop: &'a [u16], order: &'a [u16], rows: Span)
+    ensures { λ _. ⌜ now (atoms .exit) ≡ γ (now (atoms .entry)) (literals 5 6 (spanRows (now (shop .entry)) (now (order .entry)) rows)) ⌝ }
 {
     let tags = index::tags_of(rows, shop, order);
     let values = index::values_of(rows, shop, order);
+    state::assign(atoms, tags, values, tag::MAKES_FALSE, false);
+    state::assign(atoms, tags, values, tag::MAKES_TRUE, true);
+}
+
+// The same, of a state by value.
+pub fn changed<'a>(atoms: [bool; 256], shop: &'a [u16], order: &'a [u16], rows: Span) -> [bool; 256]
+    ensures { λ r. ⌜ r ≡ γ atoms (literals 5 6 (spanRows (now (shop .entry)) (now (order .entry)) rows)) ⌝ }
+{
     let mut next = atoms;
-    state::assign(&mut next, tags, values, tag::MAKES_FALSE, false);
-    state::assign(&mut next, tags, values, tag::MAKES_TRUE, true);
+    change(&mut next, shop, order, rows);
     next
 }
 
-// The state after an action by its number.
-pub fn acted<'a>(
-    atoms: [bool; 256],
+// An action by its number changes the state where it stands.
+pub fn act<'a>(
+    atoms: &mut [bool; 256],
     shop: &'a [u16],
     order: &'a [u16],
     starts: &[u16],
     action: u16,
-) -> [bool; 256]
+)
     requires { ⌜ ((ends : List ℕ) × Indexed (now shop) (now order) ends (now starts)) ⌝ }
     requires { ⌜ (1 ≤ action) × (action ≤ actionCount (now shop)) ⌝ }
-    ensures { λ r. ⌜ r ≡ γ atoms (actionAt (domain (now (shop .entry))) action .effects) ⌝ }
+    ensures { λ _. ⌜ now (atoms .exit) ≡ γ (now (atoms .entry)) (actionAt (domain (now (shop .entry))) action .effects) ⌝ }
 {
     let at = action as usize;
     let from = starts[at - 1];
@@ -85,5 +92,5 @@ pub fn acted<'a>(
         from: from,
         to: to,
     };
-    changed(atoms, shop, order, rows)
+    change(atoms, shop, order, rows);
 }

@@ -36,7 +36,7 @@ fn taken<'a>(
     requires { ⌜ Known (actionCount (now shop)) (methodCount (now shop)) known × (number < 65535) × Room (domain (now shop)) (problem .waiting .count) known ⌝ }
     ensures { λ r. ⌜ Is (carried (domain (now (shop .entry))) number (problem .atoms) (listOf (now (shop .entry)) (now (order .entry)) (problem .waiting)) (place .0) known) (now (shop .entry)) (now (order .entry)) problem r ⌝ }
 {
-    let atoms = problem.atoms;
+    let mut atoms = problem.atoms;
     let waiting = problem.waiting;
     match known {
         Move::Release => {
@@ -44,8 +44,8 @@ fn taken<'a>(
             Stepped::taken(atoms, next, 0)
         }
         Move::Act(action) => {
-            let next = problem::acted(atoms, shop, order, starts, action);
-            Stepped::taken(next, waiting, action)
+            problem::act(&mut atoms, shop, order, starts, action);
+            Stepped::taken(atoms, waiting, action)
         }
         Move::Use(method) => {
             let next = waiting.decomposed(shop, ends, starts, number, method, name, place);

@@ -167,23 +167,23 @@ run-spec =
     ))
     (λ c. search needs)
     (λ c κs.
-    let v = c .before .before .before .before .before .before in
-    let k = known v _ (c .before .before .before .before .decision2 .given .1) _ (c .before .known .given .1) in
-    ((start v .args .ends .now, start v .pre .0), k))
-    (λ c κs.
     let v = c .before .before .before .before .before .before .before in
     let k = known v _ (c .before .before .before .before .before .decision2 .given .1) _ (c .before .before .known .given .1) in
+    ((start v .args .ends .now, start v .pre .0), k))
+    (λ c κs.
+    let v = c .before .before .before .before .before .before .before .before in
+    let k = known v _ (c .before .before .before .before .before .before .decision2 .given .1) _ (c .before .before .before .known .given .1) in
     let h = start-inside (shop v) (order v) (start v .args .ends .now) (start v .args .starts .now) (start v .pre .0) _ (k .0) (k .1) in
     let z = start-below (shop v) (order v) (start v .args .ends .now) (start v .args .starts .now) (start v .pre .0) _ (k .0) (k .1) in
     ((h .0, h .1, omega (arith, here v .loop .inv .3, h .2)), omega (arith, here v .loop .inv .3, z)))
-    (λ c. let v = c .before .before .before .before .before .before .before .before in omega (arith, here v .loop .inv .0 .few, more v, start v .pre .1 .0 .1))
+    (λ c. let v = c .before .before .before .before .before .before .before .before .before in omega (arith, here v .loop .inv .0 .few, more v, start v .pre .1 .0 .1))
     (λ c. search needs)
-    (λ c. let v = c .before .before .before .before .before .before .before .before in omega (arith, here v .loop .inv .0 .cheap, more v, start v .pre .1 .0 .1))
+    (λ c. let v = c .before .before .before .before .before .before .before .before .before in omega (arith, here v .loop .inv .0 .cheap, more v, start v .pre .1 .0 .1))
     (λ c. omega arith)
     (λ c.
-    let v = c .before .before .before .before .before .before .before .before in
+    let v = c .before .before .before .before .before .before .before .before .before in
     let l = here v .loop in (
-      acts v _ (c .before .before .before .before .before .before .decision2 .given .1) _ (c .before .before .before .known .given .1) (c .before .acted .result) (c .before .acted .ensures) (c .cost-of .result) (c .cost-of .ensures) (omega arith),
+      acts v _ (c .before .before .before .before .before .before .before .decision2 .given .1) _ (c .before .before .before .before .known .given .1) _ (c .before .act .ensures) (c .cost-of .result) (c .cost-of .ensures) (omega arith),
       l .inv .1,
       l .inv .2,
       l .inv .3,

@@ -9,28 +9,26 @@ use Rattle.hgn.specs.State.{assign, γ}
 use Rattle.hgn.specs.Meaning.{literals}
 use Rattle.formulas.specs.Spanned.{spanRows}
 use Rattle.steps.proofs.Changes.{changes}
-use Rattle.steps.proofs.problem.changed.Statement.{statement}
-use Rattle.steps.proofs.problem.changed.Tie as tie
+use Rattle.steps.proofs.problem.change.Statement.{statement}
+use Rattle.steps.proofs.problem.change.Tie as tie
 
 returns : tie.Need-returns
 unfolding spanRows
 returns c =
-    let first = c .before .before .before .before in
+    let first = c .before .before in
     let cut = first .before .before in
     let start = cut .before .before .before .before in
-    c .before .assign2 .ensures
+    c .assign2 .ensures
     ∙ ap (assign true (valuesOf 5 (zipWith row (cut .before .tags-of .result .now) (cut .values-of .result .now)))) (first .assign .ensures)
-    ∙ changes (zipWith row (cut .before .tags-of .result .now) (cut .values-of .result .now)) (start .args .atoms)
-    ∙ ap₂ (λ (x y : List ℕ). γ (start .args .atoms) (literals 5 6 (zipWith row x y))) (cut .before .tags-of .ensures) (cut .values-of .ensures)
+    ∙ changes (zipWith row (cut .before .tags-of .result .now) (cut .values-of .result .now)) (start .args .atoms .now)
+    ∙ ap₂ (λ (x y : List ℕ). γ (start .args .atoms .now) (literals 5 6 (zipWith row x y))) (cut .before .tags-of .ensures) (cut .values-of .ensures)
 
-pub changed-spec : {M : Type 1} → statement M
-changed-spec =
+pub change-spec : {M : Type 1} → statement M
+change-spec =
     tie.close
     (tie.spec
     (λ c κs. search needs)
     (λ c κs. search needs)
-    (λ c. search needs)
     (λ c κs. search needs)
-    (λ c. search needs)
     (λ c κs. search needs)
     returns)

@@ -5,11 +5,11 @@ use borrow.Author.Needs.{needs}
 use Rattle.hgn.specs.State.{γ}
 use Rattle.network.proofs.Tables.{starts-fit}
 use Rattle.steps.proofs.Decided.{effects-are}
-use Rattle.steps.proofs.problem.acted.Statement.{statement}
-use Rattle.steps.proofs.problem.acted.Tie as tie
+use Rattle.steps.proofs.problem.act.Statement.{statement}
+use Rattle.steps.proofs.problem.act.Tie as tie
 
-pub acted-spec : {M : Type 1} → statement M
-acted-spec =
+pub act-spec : {M : Type 1} → statement M
+act-spec =
     tie.close
     (tie.spec
     (λ c. search needs)
@@ -19,5 +19,5 @@ acted-spec =
     (λ c. let s = c .before .before .before .before .before in omega (arith, starts-fit (s .pre .0 .1), s .pre .1))
     (λ c κs. search needs)
     (λ c.
-    let s = c .before .before .before .before .before .before in
-    c .changed .ensures ∙ ap (γ (s .args .atoms)) (effects-are (s .pre .0 .1) (s .args .action) (s .pre .1 .0) (s .pre .1 .1))))
+    let s = c .before .before .before .before .before .before .before in
+    c .change .ensures ∙ ap (γ (s .args .atoms .now)) (effects-are (s .pre .0 .1) (s .args .action) (s .pre .1 .0) (s .pre .1 .1))))
