@@ -1,12 +1,12 @@
--- The array of the waiting list: what stands at a place, and what a copy of its entries to other places leaves. Assumes nothing.
+-- The array of the waiting list: what stands at a place, and what is left where its entries move, one by one. Assumes nothing.
 use Prim.Native.Nat.{ℕ, zero, suc, _+_, _-_, _<_, _≤_}
 use native.Mathlib.Omega.{arith}
 use native.Mathlib.Numerals.{add-one}
 use native.Mathlib.Nat.{not-suc-le-zero, le-of-suc-le-suc}
-use mathlib.Core.Path.{_≡_, refl, sym, ap, _∙_}
-use mathlib.Core.List.{List, [], _∷_, _++_}
-use lib.ListN.{length, take, drop, getD, set, length-take, length-drop, List·getD-eq-default}
-use lib.Seq.{paste, paste-suc, take-paste, drop-paste, take-take, take-add, drop-at, take-append-le, length-take-le, getD-drop, getD-take}
+use mathlib.Core.Path.{_≡_, refl, sym, ap, ap₂, _∙_}
+use mathlib.Core.List.{List, [], _∷_, _++_, append-nil}
+use lib.ListN.{length, take, drop, getD, set, length-take, length-set, drop-of-length-le, List·getD-eq-default}
+use lib.Seq.{take-take, take-at, drop-at, take-suc, drop-cons, append-snoc, length-take-le, getD-take, getD-set-same, take-set-le, take-set-lt, take-suc-set, drop-set-lt}
 use Rattle.network.specs.Entries.{without, Opened}
 use Rattle.network.specs.declared.waiting.Entry.{Entry}
 
@@ -25,48 +25,61 @@ module _ {A : Type 0} (l : List A) where
   pub entry-past : (n i : ℕ) (b : A) → n ≤ i → b ≡ getD (take n l) i b
   entry-past n i b h = sym (List·getD-eq-default (take n l) b (simp length-take (omega arith)))
 
-  -- One more entry copied.
-  pub copy-more : (from to i : ℕ) (z : A) {next : List A} → next ≡ paste l to (drop from l) i → to + i < length l → from + i < length l
-      → set next (to + i) (getD l (from + i) z) ≡ paste l to (drop from l) (i + 1)
-  copy-more from to i z e p q =
-      let h : i < length (drop from l) = simp length-drop (omega arith) in
-      rw (e, ← getD-drop from l i z, add-one) (paste-suc l to (drop from l) i z p h)
+-- The list less the `size` entries from place `i` on: a gap, whatever stands there.
+abbrev pub around : List Entry → ℕ → ℕ → List Entry
+around l i size = take i l ++ drop (i + size) l
 
-  -- The same, read from the array that is written: the entries from `to` + `i` on are as they were.
-  pub move-more : (from to i : ℕ) (z : A) {next : List A} → next ≡ paste l to (drop from l) i → to ≤ from → from + i < length l
-      → set next (to + i) (getD next (from + i) z) ≡ paste l to (drop from l) (i + 1)
-  move-more from to i z {next} e o q =
-      let h : i ≤ length (drop from l) = simp length-drop (omega arith) in
-      let n : to + i + (from - to) ≡ from + i = omega arith in
-      let kept : drop (to + i) next ≡ drop (to + i) l = rw e (drop-paste l to (drop from l) i (omega arith) h) in
-      let same : getD next (from + i) z ≡ getD l (from + i) z =
-      ap (λ (k : ℕ). getD next k z) (sym n)
-      ∙ sym (getD-drop (to + i) next (from - to) z)
-      ∙ ap (λ (r : List A). getD r (from - to) z) kept
-      ∙ getD-drop (to + i) l (from - to) z
-      ∙ ap (λ (k : ℕ). getD l k z) n in
-      ap (set next (to + i)) same ∙ copy-more from to i z e (omega arith) q
+-- An entry steps down over a gap of one before it, or up over a gap behind it.
+stepped-down : (l : List Entry) (i : ℕ) (v z : Entry) → i + 1 < length l → v ≡ getD l (i + 1) z → without (set l i v) (i + 1) ≡ without l i
+stepped-down l i v z h e =
+    ap₂ {C = List Entry} (λ x y. x ++ y) (ap (λ (k : ℕ). take k (set l i v)) (add-one i) ∙ take-suc-set l i v (omega arith)) (drop-set-lt (suc (i + 1)) l i v (omega arith))
+    ∙ append-snoc (take i l) v (drop (suc (i + 1)) l)
+    ∙ ap {B = List Entry} (λ x. take i l ++ x)
+    (ap {B = List Entry} (λ x. x ∷ drop (suc (i + 1)) l) e ∙ sym (ap (λ (k : ℕ). drop k l) (sym (add-one i)) ∙ drop-cons l (i + 1) z h))
 
-  -- After a copy of `k` entries: those before `to` are as they were, and the `k` behind them are those that were counted from `from` on.
-  copied : (from to k m n : ℕ) → m ≡ to + k → n ≡ from + k → m ≤ length l → n ≤ length l
-      → take m (paste l to (drop from l) k) ≡ take to l ++ drop from (take n l)
-  copied from to k m n em en hm hn =
-      let h : k ≤ length (drop from l) = simp length-drop (omega arith) in
-      rw (em, en, take-add from k l, drop-at (take from l) (take k (drop from l)) from (length-take-le from l (omega arith)))
-      (take-paste l to (drop from l) k (omega arith) h)
+stepped-up : (l : List Entry) (i size : ℕ) (v z : Entry) → i + 1 + size ≤ length l → v ≡ getD l i z → around (set l (i + size) v) i size ≡ around l (i + 1) size
+stepped-up l i size v z h e =
+    let inside : i + size < length (set l (i + size) v) = simp length-set (omega arith) in
+    let n : suc (i + size) ≡ i + 1 + size = omega arith in
+    ap₂ {C = List Entry} (λ x y. x ++ y) (take-set-le i l (i + size) v (omega arith))
+    (drop-cons (set l (i + size) v) (i + size) z inside
+    ∙ ap₂ {C = List Entry} (λ x y. x ∷ y) (getD-set-same l (i + size) v z (omega arith)) (drop-set-lt (suc (i + size)) l (i + size) v (omega arith) ∙ ap (λ (k : ℕ). drop k l) n))
+    ∙ sym (append-snoc (take i l) v (drop (i + 1 + size) l))
+    ∙ ap {B = List Entry} (λ x. x ++ drop (i + 1 + size) l)
+    (ap {B = List Entry} (λ x. take i l ++ (x ∷ [])) e ∙ sym (ap (λ (k : ℕ). take k l) (add-one i) ∙ take-suc l i z (omega arith)))
 
-module _ (l : List Entry) (p n : ℕ) {r : List Entry} where
-  -- The goals behind place `p` copied one place down, and the count one less.
-  pub goal-out : r ≡ paste l p (drop (p + 1) l) (n - p - 1) → p < n → n ≤ length l → take (n - 1) r ≡ without (take n l) p
-  goal-out e h f =
-      rw (e, copied l (p + 1) p (n - p - 1) (n - 1) n (omega arith) (omega arith) (omega arith) f, add-one, take-take p n l (omega arith))
+-- Of the array `l` the first `n` are the list.
+module _ (l : List Entry) (n : ℕ) where
+  -- The goal at place `i` is on its way out: the next one takes its place.
+  pub gap-up : (i : ℕ) (z : Entry) → i + 1 < n → n ≤ length l → without (take n (set l i (getD l (i + 1) z))) (i + 1) ≡ without (take n l) i
+  gap-up i z h f =
+      ap (λ (x : List Entry). without x (i + 1)) (take-set-lt n l i (getD l (i + 1) z) (omega arith))
+      ∙ stepped-down (take n l) i (getD l (i + 1) z) z (simp length-take (omega arith)) (sym (getD-take n l (i + 1) z h))
 
-  -- The goals from place `p` on copied `more` places up, and the count that much more.
-  pub room-made : (more : ℕ) → r ≡ paste l (p + more) (drop p l) (n - p) → p ≤ n → n + more ≤ length l → Opened (take n l) p more (take (n + more) r)
-  room-made more e h f =
-      let q : p ≤ length (take (p + more) l) = simp length-take (omega arith) in
-      let c = copied l p (p + more) (n - p) (n + more) n (omega arith) (omega arith) f (omega arith) in
-      record {
-        before = rw (e, c, take-append-le p (take (p + more) l) (drop p (take n l)) q, take-take p (p + more) l (omega arith), take-take p n l (omega arith));
-        behind = rw (e, c) (drop-at (take (p + more) l) (drop p (take n l)) (p + more) (length-take-le (p + more) l (omega arith)));
-      }
+  pub gap-out : (i : ℕ) → i + 1 ≡ n → n ≤ length l → without (take n l) i ≡ take (n - 1) l
+  gap-out i e f =
+      let m : i ≡ n - 1 = omega arith in
+      ap₂ {C = List Entry} (λ x y. x ++ y) (take-take i n l (omega arith)) (drop-of-length-le (take n l) {i = suc i} (simp length-take (omega arith)))
+      ∙ append-nil (take i l)
+      ∙ ap (λ (k : ℕ). take k l) m
+
+  -- Room for `more` goals is on its way to a place: it begins behind the list, and the goal before it steps over it.
+  pub room-behind : (more : ℕ) → n + more ≤ length l → around (take (n + more) l) n more ≡ take n l
+  room-behind more f =
+      ap₂ {C = List Entry} (λ x y. x ++ y) (take-take n (n + more) l (omega arith)) (drop-of-length-le (take (n + more) l) {i = n + more} (simp length-take (omega arith)))
+      ∙ append-nil (take n l)
+
+  pub room-down : (more i : ℕ) (z : Entry) → 0 < i → i + more ≤ n → n ≤ length l
+      → around (take n (set l (i - 1 + more) (getD l (i - 1) z))) (i - 1) more ≡ around (take n l) i more
+  room-down more i z h f g =
+      let m : i - 1 + 1 ≡ i = omega arith in
+      ap (λ (x : List Entry). around x (i - 1) more) (take-set-lt n l (i - 1 + more) (getD l (i - 1) z) (omega arith))
+      ∙ stepped-up (take n l) (i - 1) more (getD l (i - 1) z) z (simp length-take (omega arith)) (sym (getD-take n l (i - 1) z (omega arith)))
+      ∙ ap (λ (k : ℕ). around (take n l) k more) m
+
+-- The room has come to place `p`.
+pub room-made : (l : List Entry) (p more : ℕ) {r : List Entry} → p ≤ length r → around r p more ≡ l → Opened l p more r
+room-made l p more {r} h e = record {
+  before = sym (take-at (take p r) (drop (p + more) r) p (length-take-le p r h)) ∙ ap (take p) e;
+  behind = sym (drop-at (take p r) (drop (p + more) r) p (length-take-le p r h)) ∙ ap (drop p) e;
+}

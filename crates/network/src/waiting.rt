@@ -4,8 +4,7 @@ use spans::index::Span;
 ghost use mathlib.Core.Path.{_≡_};
 ghost use mathlib.Core.List.{[]};
 ghost use Prim.Native.Nat.{_+_, _<_, _≤_};
-ghost use lib.ListN.{drop, getD};
-ghost use lib.Seq.{paste};
+ghost use lib.ListN.{getD};
 ghost use Rattle.network.specs.Entries.{entriesOf, sameName, without, noEntry, Opened};
 
 // A place in the waiting list, from 0.
@@ -29,36 +28,6 @@ pub struct Entry {
 pub struct Waiting {
     pub entries: [Entry; Waiting::MOST as usize],
     pub count: u16,
-}
-
-// The entries with `number` of them, from `from` on, copied to `to` and on.
-fn shifted(entries: [Entry; 64], from: usize, to: usize, number: usize) -> [Entry; 64]
-    requires { ⌜ (from + number ≤ 64) × (to + number ≤ 64) ⌝ }
-    ensures { λ r. ⌜ r ≡ paste entries to (drop from entries) number ⌝ }
-{
-    let mut next = entries;
-    let mut i = 0;
-    while i < number {
-        next[to + i] = entries[from + i];
-        i += 1;
-    }
-    next
-}
-
-// The entries with the `number` behind place `at` moved down by one, over it: where they stand, as each is read before it is written
-// over.
-fn closed(entries: [Entry; 64], at: usize, number: usize) -> [Entry; 64]
-    requires { ⌜ at + 1 + number ≤ 64 ⌝ }
-    ensures { λ r. ⌜ r ≡ paste entries at (drop (at + 1) entries) number ⌝ }
-{
-    let mut next = entries;
-    let mut i = 0;
-    while i < number {
-        let later = next[at + 1 + i];
-        next[at + i] = later;
-        i += 1;
-    }
-    next
 }
 
 impl Name {
@@ -123,32 +92,38 @@ impl Waiting {
         Entry::none()
     }
 
-    // The goal at a place leaves the list; later places drop by one.
-    pub fn released(self, place: Place) -> Waiting
+    // The goal at a place leaves the list; later places drop by one, where they stand.
+    pub fn released(mut self, place: Place) -> Waiting
         requires { ⌜ (place .0 < self .count) × (self .count ≤ 64) ⌝ }
         ensures { λ r. ⌜ (entriesOf r ≡ without (entriesOf self) (place .0)) × (r .count + 1 ≡ self .count) ⌝ }
     {
-        let at = place.0 as usize;
-        let later = self.count as usize - at - 1;
-        let entries = self.entries;
-        Waiting {
-            entries: closed(entries, at, later),
-            count: self.count - 1,
+        let last = self.count as usize - 1;
+        let mut at = place.0 as usize;
+        while at < last {
+            let later = self.entries[at + 1];
+            self.entries[at] = later;
+            at += 1;
         }
+        self.count -= 1;
+        self
     }
 
-    // Room for `more` goals directly before a place: the goals from there on move up. What stands in the room is not said.
-    pub fn opened(self, place: Place, more: u16) -> Waiting
+    // Room for `more` goals directly before a place: the goals from there on move up where they stand, the last first. What stands in
+    // the room is not said.
+    pub fn opened(mut self, place: Place, more: u16) -> Waiting
         requires { ⌜ (place .0 ≤ self .count) × (self .count + more ≤ 64) ⌝ }
         ensures { λ r. ⌜ Opened (entriesOf self) (place .0) more (entriesOf r) ⌝ }
         ensures { λ r. ⌜ r .count ≡ self .count + more ⌝ }
     {
-        let at = place.0 as usize;
-        let later = self.count as usize - at;
-        let entries = self.entries;
-        Waiting {
-            entries: shifted(entries, at, at + more as usize, later),
-            count: self.count + more,
+        let first = place.0 as usize;
+        let up = more as usize;
+        let mut at = self.count as usize;
+        while first < at {
+            at -= 1;
+            let goal = self.entries[at];
+            self.entries[at + up] = goal;
         }
+        self.count += more;
+        self
     }
 }
