@@ -6,9 +6,10 @@ use native.Mathlib.Nat.{not-suc-le-zero, le-of-suc-le-suc}
 use mathlib.Core.Path.{_≡_, refl, sym, ap, ap₂, _∙_}
 use mathlib.Core.List.{List, [], _∷_, _++_, append-nil}
 use lib.ListN.{length, take, drop, getD, set, length-take, length-set, drop-of-length-le, List·getD-eq-default}
-use lib.Seq.{take-take, take-at, drop-at, take-suc, drop-cons, append-snoc, length-take-le, getD-take, getD-set-same, take-set-le, take-set-lt, take-suc-set, drop-set-lt}
-use Rattle.network.specs.Entries.{without, Opened}
+use lib.Seq.{take-take, take-at, drop-at, take-suc, drop-cons, append-snoc, length-take-le, getD-take, getD-drop, getD-append-add, getD-set-same, take-set-le, take-set-lt, take-suc-set, drop-set-lt}
+use Rattle.network.specs.Entries.{entriesOf, without, Opened}
 use Rattle.network.specs.declared.waiting.Entry.{Entry}
+use Rattle.network.specs.declared.waiting.Waiting.{Waiting}
 
 module _ {A : Type 0} where
   -- Inside a list the element past its end does not matter.
@@ -18,6 +19,16 @@ module _ {A : Type 0} where
   getD-inside (x ∷ l) (suc i) a b h = getD-inside l i a b (le-of-suc-le-suc h)
 
 module _ {A : Type 0} (l : List A) where
+  -- Without the element at place `p`, those behind it stand one place lower.
+  pub behind-gap : (p k : ℕ) (z : A) → p ≤ k → p < length l → getD (take p l ++ drop (suc p) l) k z ≡ getD l (suc k) z
+  behind-gap p k z h f =
+      let e : k ≡ length (take p l) + (k - p) = omega (arith, length-take-le p l (omega arith)) in
+      let m : suc p + (k - p) ≡ suc k = omega arith in
+      ap (λ (j : ℕ). getD (take p l ++ drop (suc p) l) j z) e
+      ∙ getD-append-add (take p l) (drop (suc p) l) (k - p) z
+      ∙ getD-drop (suc p) l (k - p) z
+      ∙ ap (λ (j : ℕ). getD l j z) m
+
   -- The entry at a place of the first `n`, and past them.
   pub entry-inside : (n i : ℕ) (a b : A) → i < n → n ≤ length l → getD l i a ≡ getD (take n l) i b
   entry-inside n i a b h k = getD-inside l i a b (omega arith) ∙ sym (getD-take n l i b h)
@@ -50,13 +61,13 @@ stepped-up l i size v z h e =
 
 -- Of the array `l` the first `n` are the list.
 module _ (l : List Entry) (n : ℕ) where
-  -- The goal at place `i` is on its way out: the next one takes its place.
-  pub gap-up : (i : ℕ) (z : Entry) → i + 1 < n → n ≤ length l → without (take n (set l i (getD l (i + 1) z))) (i + 1) ≡ without (take n l) i
+  -- A gap of one moves up to the end of the list.
+  gap-up : (i : ℕ) (z : Entry) → i + 1 < n → n ≤ length l → without (take n (set l i (getD l (i + 1) z))) (i + 1) ≡ without (take n l) i
   gap-up i z h f =
       ap (λ (x : List Entry). without x (i + 1)) (take-set-lt n l i (getD l (i + 1) z) (omega arith))
       ∙ stepped-down (take n l) i (getD l (i + 1) z) z (simp length-take (omega arith)) (sym (getD-take n l (i + 1) z h))
 
-  pub gap-out : (i : ℕ) → i + 1 ≡ n → n ≤ length l → without (take n l) i ≡ take (n - 1) l
+  gap-out : (i : ℕ) → i + 1 ≡ n → n ≤ length l → without (take n l) i ≡ take (n - 1) l
   gap-out i e f =
       let m : i ≡ n - 1 = omega arith in
       ap₂ {C = List Entry} (λ x y. x ++ y) (take-take i n l (omega arith)) (drop-of-length-le (take n l) {i = suc i} (simp length-take (omega arith)))
@@ -83,3 +94,38 @@ room-made l p more {r} h e = record {
   before = sym (take-at (take p r) (drop (p + more) r) p (length-take-le p r h)) ∙ ap (take p) e;
   behind = sym (drop-at (take p r) (drop (p + more) r) p (length-take-le p r h)) ∙ ap (drop p) e;
 }
+
+-- The goal at place `p` of the list `w₀` leaves: `w` less its entry at place `at` is what stays.
+pub record Leaving (w₀ : Waiting) (p : ℕ) (w : Waiting) (at : ℕ) : Type 0 where
+  pub inside : at < w .count
+  pub counts : w .count ≡ w₀ .count
+  pub long : length (w .entries) ≡ 64
+  pub stays : without (entriesOf w) at ≡ without (entriesOf w₀) p
+
+pub leaving-first : (w : Waiting) (p : ℕ) → p < w .count → length (w .entries) ≡ 64 → Leaving w p w p
+leaving-first w p h k = record { inside = h; counts = refl; long = k; stays = refl }
+
+module _ {w₀ w : Waiting} {p at : ℕ} (l : Leaving w₀ p w at) (few : w .count ≤ 64) where
+  -- The next goal takes its place.
+  pub leaving-next : (z : Entry) → at + 1 < w .count → Leaving w₀ p (record { entries = set (w .entries) at (getD (w .entries) (at + 1) z); count = w .count }) (at + 1)
+  leaving-next z h = record {
+    inside = h;
+    counts = l .counts;
+    long = length-set (w .entries) at (getD (w .entries) (at + 1) z) ∙ l .long;
+    stays = gap-up (w .entries) (w .count) at z h (omega (arith, l .long)) ∙ l .stays;
+  }
+
+  -- It is the last, and the list one shorter.
+  pub leaving-last : at + 1 ≡ w .count → take (w .count - 1) (w .entries) ≡ without (entriesOf w₀) p
+  leaving-last e = sym (gap-out (w .entries) (w .count) at e (omega (arith, l .long))) ∙ l .stays
+
+  -- Those behind it are as they were.
+  pub leaving-later : length (w₀ .entries) ≡ 64 → (z : Entry) → p ≤ at → at + 1 < w .count → getD (entriesOf w) (at + 1) z ≡ getD (entriesOf w₀) (at + 1) z
+  leaving-later long z h k =
+      let n = length-take-le (w .count) (w .entries) (omega (arith, l .long)) in
+      let n₀ = length-take-le (w₀ .count) (w₀ .entries) (omega (arith, l .counts)) in
+      ap (λ (j : ℕ). getD (entriesOf w) j z) (add-one at)
+      ∙ sym (behind-gap (entriesOf w) at at z (omega arith) (omega (arith, n)))
+      ∙ ap (λ (x : List Entry). getD x at z) (l .stays)
+      ∙ behind-gap (entriesOf w₀) p at z h (omega (arith, n₀, l .counts))
+      ∙ ap (λ (j : ℕ). getD (entriesOf w₀) j z) (sym (add-one at))

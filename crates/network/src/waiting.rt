@@ -92,7 +92,7 @@ impl Waiting {
         Entry::none()
     }
 
-    // The goal at a place leaves the list; later places drop by one, where they stand.
+    // The goal at a place leaves the list; the goals behind it move down one place.
     pub fn released(mut self, place: Place) -> Waiting
         requires { ⌜ (place .0 < self .count) × (self .count ≤ 64) ⌝ }
         ensures { λ r. ⌜ (entriesOf r ≡ without (entriesOf self) (place .0)) × (r .count + 1 ≡ self .count) ⌝ }
@@ -108,8 +108,8 @@ impl Waiting {
         self
     }
 
-    // Room for `more` goals directly before a place: the goals from there on move up where they stand, the last first. What stands in
-    // the room is not said.
+    // Room for `more` goals directly before a place: the goals from there on move up, the last first. What stands in the room is not
+    // said.
     pub fn opened(mut self, place: Place, more: u16) -> Waiting
         requires { ⌜ (place .0 ≤ self .count) × (self .count + more ≤ 64) ⌝ }
         ensures { λ r. ⌜ Opened (entriesOf self) (place .0) more (entriesOf r) ⌝ }

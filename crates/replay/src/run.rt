@@ -1,11 +1,17 @@
 // The run of a trace's steps. Document 01, "How a derivation runs".
 use crate::answer::Answer;
 use formulas::state::State;
-use freeness::free::look;
+use freeness::free::Seen;
+use network::waiting::Entry;
 use network::waiting::Place;
+use network::waiting::Waiting;
+use predecessors::kept::fill;
+use predecessors::listed::times_listed;
+use predecessors::moved::decomposed;
 use scan::rows::Layout;
 use scan::rows::Row;
 use scan::rows::word;
+use sheets::check::Shop;
 use steps::moves::Move;
 use steps::problem::Problem;
 use steps::problem::act;
@@ -15,13 +21,15 @@ use steps::questions::told;
 ghost use mathlib.Core.Path.{_≡_};
 ghost use Prim.Native.Nat.{_≤_, _<_, _+_, _-_};
 ghost use lib.ListN.{length, getD};
+ghost use Rattle.hgn.specs.Network.{goalsOf};
+ghost use Rattle.hgn.specs.Order as OrderSheet;
 ghost use Rattle.hgn.specs.Trace.{stepCount};
 ghost use Rattle.network.specs.Entries.{listOf, entriesOf};
 ghost use Rattle.network.specs.Tables.{Indexed};
 ghost use Rattle.replay.specs.Answers.{runAnswer, endAnswer};
 
 // The cost of an action: the value of its first row.
-pub fn cost_of(shop: &[u16], starts: &[u16], rows: usize, action: u16) -> u16
+fn cost_of(shop: &[u16], starts: &[u16], rows: usize, action: u16) -> u16
     requires { ⌜ (1 ≤ action) × (action ≤ length (now starts)) × (4 + (rows + rows) ≤ length (now shop)) ⌝ }
     requires { ⌜ getD (now starts) (action - 1) 0 < rows ⌝ }
     ensures { λ r. ⌜ r ≡ getD (now (shop .entry)) (4 + rows + getD (now (starts .entry)) (action - 1) 0) 0 ⌝ }
@@ -29,7 +37,7 @@ pub fn cost_of(shop: &[u16], starts: &[u16], rows: usize, action: u16) -> u16
     let at = action as usize;
     let row = starts[at - 1];
     let layout = Layout {
-        sizes: 4,
+        sizes: Shop::SIZES,
         rows: rows,
     };
     layout.value(shop, Row(row as usize))
@@ -46,14 +54,16 @@ pub fn run<'a>(
 ) -> Answer
     requires { ⌜ Indexed (now shop) (now order) (now ends) (now starts) ⌝ }
     requires { ⌜ (1 + (stepCount (now trace) + stepCount (now trace)) ≤ length (now trace)) × (stepCount (now trace) ≤ 4096) ⌝ }
-    requires { ⌜ first .waiting .count ≤ 64 ⌝ }
+    requires { ⌜ (first .waiting .count ≤ 64) × (listOf (now shop) (now order) (first .waiting) ≡ goalsOf (OrderSheet.order (now order))) ⌝ }
     ensures { λ r. ⌜ r ≡ runAnswer (now (shop .entry)) (now (trace .entry)) (first .atoms) (listOf (now (shop .entry)) (now (order .entry)) (first .waiting)) ⌝ }
 {
     let steps = word(trace, 0) as usize;
     let rows = word(shop, 3) as usize;
-    // Apart, so that a step changes the one and leaves the other where it stands.
+    // State and list apart, so that a step that changes the one does not copy the other.
     let mut atoms = first.atoms;
     let mut waiting = first.waiting;
+    let mut counts = [0usize; Waiting::MOST as usize];
+    fill(shop, order, &mut counts, waiting, 0, waiting.count as usize);
     let mut count: u16 = 0;
     let mut cost: u32 = 0;
     let mut i: usize = 0;
@@ -62,7 +72,17 @@ pub fn run<'a>(
         let mv = word(trace, 1 + i);
         let place = Place(word(trace, 1 + steps + i));
         i += 1;
-        let seen = look(shop, order, waiting, place);
+        let at = place.0 as usize;
+        let mut goal = Entry::none();
+        let mut free = false;
+        if place.0 < waiting.count {
+            goal = waiting.entries[at];
+            free = counts[at] == 0;
+        }
+        let seen = Seen {
+            goal: goal,
+            free: free,
+        };
         let decision = decide(
             shop,
             order,
@@ -80,8 +100,16 @@ pub fn run<'a>(
             }
             Decision::Takes(known) => match known {
                 Move::Release => {
-                    let next = waiting.released(place);
-                    waiting = next;
+                    // As `Waiting::released` does, but on the list where it stands: one that is handed over is copied.
+                    let last = waiting.count as usize - 1;
+                    let mut here = at;
+                    while here < last {
+                        let later = waiting.entries[here + 1];
+                        counts[here] = counts[here + 1] - times_listed(shop, order, later, goal);
+                        waiting.entries[here] = later;
+                        here += 1;
+                    }
+                    waiting.count -= 1;
                 }
                 Move::Act(action) => {
                     act(&mut atoms, shop, order, starts, action);
@@ -90,12 +118,14 @@ pub fn run<'a>(
                     cost += price as u32;
                 }
                 Move::Use(method) => {
-                    let goal = seen.goal;
                     let parent = goal.name;
-                    let next = waiting.decomposed(
+                    let next = decomposed(
                         shop,
+                        order,
                         ends,
                         starts,
+                        &mut counts,
+                        waiting,
                         number,
                         method,
                         parent,
@@ -114,7 +144,7 @@ pub fn run<'a>(
 }
 
 // After the last step: nothing waiting? 33.
-pub fn ended(problem: Problem, steps: u16, count: u16, cost: u32) -> Answer
+fn ended(problem: Problem, steps: u16, count: u16, cost: u32) -> Answer
     requires { ⌜ problem .waiting .count ≤ 64 ⌝ }
     ensures { λ r. ⌜ r ≡ endAnswer steps (problem .atoms) (length (entriesOf (problem .waiting))) count cost ⌝ }
 {

@@ -17,7 +17,7 @@ run-indexed-spec =
     (λ c κs.
     let p = c .before .before .before .before .before .before in
     let s = p .before .before .before .before .before .before .before .before in
-    (p .prepared .ensures .0, (trace-sizes (s .args .shop .now) (s .args .order .now) (s .args .trace .now) (s .pre .0), p .prepared .ensures .1 .1 .1)))
+    (p .prepared .ensures .0, (trace-sizes (s .args .shop .now) (s .args .order .now) (s .args .trace .now) (s .pre .0), (p .prepared .ensures .1 .1 .1, p .prepared .ensures .1 .1 .0))))
     (λ c. search needs)
     (λ c. search needs)
     (λ c.

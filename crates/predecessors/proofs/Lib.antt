@@ -1,0 +1,5 @@
+-- Laws of the counts.
+pub mod Afters
+pub mod Places
+pub mod Pending
+pub mod Counted

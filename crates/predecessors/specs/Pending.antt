@@ -1,0 +1,31 @@
+-- How often a goal is listed after goals that still wait. Document 01, "How a derivation runs": a waiting goal is free if no goal it comes
+-- after still waits.
+use Prim.Native.Nat.{ℕ, suc, _+_, _<_}
+use mathlib.Core.Path.{_≡_}
+use mathlib.Core.Bool.{cond}
+use mathlib.Core.List.{List, [], _∷_}
+use lib.Dec.{eqb}
+use lib.ListN.{length, getD}
+use Rattle.hgn.specs.Network.{Waiting, sameOrigin, isParent, goalAt}
+
+-- How often the number stands in the list.
+unfoldable pub occurrences : ℕ → List ℕ → ℕ
+occurrences n [] = 0
+occurrences n (k ∷ ks) = cond (eqb n k) (suc (occurrences n ks)) (occurrences n ks)
+
+-- As often as `p`'s number stands among `q`'s, in one network.
+abbrev pub byNetwork : Waiting → Waiting → ℕ
+byNetwork q p = cond (sameOrigin (q .name .origin) (p .name .origin)) (occurrences (p .name .number) (q .after)) 0
+
+-- How often `q` is listed after `p`: that, or once if `p` came with a method used at `q`.
+unfoldable pub listed : Waiting → Waiting → ℕ
+listed q p = cond (eqb (byNetwork q p) 0) (cond (isParent (q .name) (p .parent)) 1 0) (byNetwork q p)
+
+-- The same, of all goals of a list.
+unfoldable pub pending : List Waiting → Waiting → ℕ
+pending [] q = 0
+pending (p ∷ w) q = listed q p + pending w q
+
+-- The counts are those of the waiting goals, place by place.
+abbrev pub Counted : List Waiting → List ℕ → Type 0
+Counted w c = (k : ℕ) → k < length w → getD c k 0 ≡ pending w (goalAt w k)
