@@ -1,8 +1,8 @@
 -- The questions of a replay and those of a search, each as one list, in the paper's order and words, each with its number, the place
 -- field when the answer is no, and its answer; and the first no. Document 01, "Questions, and the number when the answer is no".
--- `checkReplay`, `run` and `search` ask one after another and stop. Nothing here does, so that "the first question it fails" has its
--- meaning apart from them; `Demands` says that they agree. Only the answer to 43 is the search's own; that it is right is `none-iff` of
--- `SearchFindsFirst`.
+-- `checkReplay`, `run` and `search` ask one after another and stop. This list goes on past a no, but for an unknown move, behind which
+-- there is nothing to ask; so "the first question it fails" has its meaning apart from them. `Demands` says that they agree. Only the
+-- answer to 43 is the search's own; that it is right is `none-iff` of `SearchFindsFirst`.
 use Prim.Native.Nat.{ℕ, suc, _+_, _*_}
 use mathlib.Core.Path.{_≡_}
 use mathlib.Core.Bool.{Bool, true, false, _&&_}
