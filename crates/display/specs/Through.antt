@@ -30,7 +30,8 @@ unfoldable pub runPlace : ℕ → Outcome → ℕ
 runPlace steps (stopped number place) = place
 runPlace steps (accepted plan s) = steps
 
--- Accepted, the record holds the last state, and nothing waits.
+-- Accepted, the record holds the last state, and nothing waits. Refused, what it holds is left free here: of the step that is refused,
+-- `Forward` says that it leaves the record as it was.
 unfoldable pub Last : Outcome → Problem → Type 0
 Last (stopped number place) b = Unit {0}
 Last (accepted plan s) b = (b .atoms ≡ s) × (b .waiting .count ≡ 0)
