@@ -1,4 +1,4 @@
--- The first of the shortest accepted lists of steps, from any step number, state and waiting list, one step at a time. Assumes nothing.
+-- The first of the shortest accepted lists of steps, under any rules, from any step number and problem, one step at a time. Assumes nothing.
 use Prim.Native.Nat.{ℕ, suc, _≤_, _<_}
 use native.Mathlib.Omega.{arith}
 use native.Mathlib.Nat.{le-of-suc-le-suc}
@@ -9,54 +9,49 @@ use mathlib.Core.List.{List, [], _∷_}
 use lib.Dec.{ltb}
 use lib.ListN.{length}
 use borrow.Author.Tests.{ltb-true, ltb-false}
-use Rattle.hgn.specs.Meaning.{Domain}
 use Rattle.hgn.specs.State.{State}
-use Rattle.hgn.specs.Network.{Waiting, mostWaiting}
-use Rattle.hgn.specs.Run.{Step, taken, stepped, run, accepted}
+use Rattle.hgn.specs.Run.{Step, Problem, Rules, Deed, taken, stepped, run, accepted}
 use Rattle.hgn.specs.Search.{Earlier, lower-place, lower-move, same-step}
-use Rattle.hgn.proofs.Steps.{taken-state, taken-list}
+use Rattle.hgn.proofs.Steps.{taken-problem}
 use Rattle.hgn.proofs.Runs.{resumes, resumed-accepts}
 
 -- The steps are accepted, numbered from `n`.
-abbrev pub Runs : Domain → ℕ → State → List Waiting → List Step → Type 0
-Runs d n s w xs = (plan : List ℕ) × (last : State) × (run mostWaiting d n s w xs ≡ accepted plan last)
+abbrev pub Runs : Rules → ℕ → Problem → List Step → Type 0
+Runs r n P xs = (deeds : List Deed) × (last : State) × (run r n P xs ≡ accepted deeds last)
 
-pub record Best (d : Domain) (n : ℕ) (s : State) (w : List Waiting) (xs : List Step) : Type 0 where
-  pub runs : Runs d n s w xs
-  pub shortest : (ys : List Step) → Runs d n s w ys → length xs ≤ length ys
-  pub earliest : (ys : List Step) → Runs d n s w ys → length ys ≡ length xs → ¬ Earlier ys xs
+pub record Best (r : Rules) (n : ℕ) (P : Problem) (xs : List Step) : Type 0 where
+  pub runs : Runs r n P xs
+  pub shortest : (ys : List Step) → Runs r n P ys → length xs ≤ length ys
+  pub earliest : (ys : List Step) → Runs r n P ys → length ys ≡ length xs → ¬ Earlier ys xs
 
-module _ (d : Domain) (n : ℕ) (s : State) (w : List Waiting) (x : Step) (xs : List Step) where
+module _ (r : Rules) (n : ℕ) (P : Problem) (x : Step) (xs : List Step) where
   -- The first of accepted steps is taken, and the rest are accepted from there.
-  pub runs-head : Runs d n s w (x ∷ xs)
-      → (done : List ℕ) × (s′ : State) × (w′ : List Waiting) × (stepped mostWaiting d n s w x ≡ taken done s′ w′) × Runs d (suc n) s′ w′ xs
-  runs-head r =
-      let f = resumes mostWaiting d n s w x xs (r .0) (r .1) (r .2) in
-      (f .done, f .next, f .list, f .first, (f .rest, r .1, f .goes-on))
+  pub runs-head : Runs r n P (x ∷ xs) → (deed : Deed) × (P′ : Problem) × (stepped r n P x ≡ taken deed P′) × Runs r (suc n) P′ xs
+  runs-head h =
+      let f = resumes (stepped r) n P x xs (h .0) (h .1) (h .2) in
+      (f .deed, f .left, f .first, (f .rest, h .1, f .goes-on))
 
-  module _ {done : List ℕ} {s′ : State} {w′ : List Waiting} (e : stepped mostWaiting d n s w x ≡ taken done s′ w′) where
-    pub runs-tail : Runs d n s w (x ∷ xs) → Runs d (suc n) s′ w′ xs
-    runs-tail r =
-        let f = runs-head r in
-        let q = sym (f .3) ∙ e in
-        subst₂ (λ (t : State) (v : List Waiting). Runs d (suc n) t v xs) (taken-state q) (taken-list q) (f .4)
+  module _ {deed : Deed} {P′ : Problem} (e : stepped r n P x ≡ taken deed P′) where
+    pub runs-tail : Runs r n P (x ∷ xs) → Runs r (suc n) P′ xs
+    runs-tail h =
+        let f = runs-head h in
+        subst (λ (Q : Problem). Runs r (suc n) Q xs) (taken-problem (sym (f .2) ∙ e)) (f .3)
 
     -- And back.
-    pub runs-cons : Runs d (suc n) s′ w′ xs → Runs d n s w (x ∷ xs)
-    runs-cons r = (_, r .1, resumed-accepts mostWaiting d n s w x xs done (r .0) s′ (r .1) w′ e (r .2))
+    pub runs-cons : Runs r (suc n) P′ xs → Runs r n P (x ∷ xs)
+    runs-cons h = (_, h .1, resumed-accepts (stepped r) n P x xs deed P′ (h .0) (h .1) e (h .2))
 
-module _ {d : Domain} {n : ℕ} {s : State} {w : List Waiting} {x : Step} {xs : List Step} (b : Best d n s w (x ∷ xs)) where
-  pub best-head : (done : List ℕ) × (s′ : State) × (w′ : List Waiting) × (stepped mostWaiting d n s w x ≡ taken done s′ w′)
-  best-head = let f = runs-head d n s w x xs (b .runs) in (f .0, f .1, f .2, f .3)
+module _ {r : Rules} {n : ℕ} {P : Problem} {x : Step} {xs : List Step} (b : Best r n P (x ∷ xs)) where
+  pub best-head : (deed : Deed) × (P′ : Problem) × (stepped r n P x ≡ taken deed P′)
+  best-head = let f = runs-head r n P x xs (b .runs) in (f .0, f .1, f .2)
 
   -- The rest of the best steps are the best from there: others, put behind the first step, would be better from the start too.
-  pub best-tail : {done : List ℕ} {s′ : State} {w′ : List Waiting} → stepped mostWaiting d n s w x ≡ taken done s′ w′ → Best d (suc n) s′ w′ xs
-  best-tail e =
-      record {
-        runs = runs-tail d n s w x xs e (b .runs);
-        shortest = λ ys r. le-of-suc-le-suc (b .shortest (x ∷ ys) (runs-cons d n s w x ys e r));
-        earliest = λ ys r l h. b .earliest (x ∷ ys) (runs-cons d n s w x ys e r) (ap suc l) (same-step h);
-      }
+  pub best-tail : {deed : Deed} {P′ : Problem} → stepped r n P x ≡ taken deed P′ → Best r (suc n) P′ xs
+  best-tail e = record {
+    runs = runs-tail r n P x xs e (b .runs);
+    shortest = λ ys h. le-of-suc-le-suc (b .shortest (x ∷ ys) (runs-cons r n P x ys e h));
+    earliest = λ ys h l k. b .earliest (x ∷ ys) (runs-cons r n P x ys e h) (ap suc l) (same-step k);
+  }
 
 -- Of two lists of one length, either they are equal or one is earlier.
 

@@ -9,9 +9,8 @@ use mathlib.Core.Option.{Option, none, some, Option·none-ne-some, Option·some-
 use lib.ListN.{length}
 use Rattle.hgn.specs.Lists.{from, firstSome}
 use Rattle.hgn.specs.Meaning.{Domain}
-use Rattle.hgn.specs.State.{State}
 use Rattle.hgn.specs.Network.{Waiting}
-use Rattle.hgn.specs.Run.{Step, firstMethod, Move, taken, stepped}
+use Rattle.hgn.specs.Run.{Step, firstMethod, Move, Problem, Rules, Deed, taken, stepped}
 use Rattle.hgn.specs.Trace.{step}
 use Rattle.hgn.specs.Search.{movesOf, stepsAt, candidates}
 use Rattle.hgn.proofs.Steps.{Moved, by-release, by-action, by-method, took}
@@ -190,27 +189,29 @@ module _ (d : Domain) where
           rising-append Before (stepsAt d p) (flatten (map (stepsAt d) ps)) (place-rising p b) (go ps (r .1))
           (λ x y m n. let e = at-place p x m in let l = r .0 (y .place) (places-within ps y n) in inl (omega arith))
 
-  move-known : {limit n p k : ℕ} {s s′ : State} {w w′ : List Waiting} {m : Move} {done : List ℕ} → Reads d k m → Moved limit d n s w p m done s′ w′
-      → List·Memᴰ k (movesOf d)
-  unfolding movesOf
-  move-known as-release (by-release f) = List·Memᴰ·head refl
-  move-known (as-action {k} h) (by-action f g) =
-      List·Memᴰ·tail (Memᴰ·append-left _ (within-from 1 (length (d .actions)) (suc k) (omega arith) (omega arith)))
-  move-known (as-method {k} h) (by-method f g l) =
-      List·Memᴰ·tail
-      (Memᴰ·append-right (from 1 (length (d .actions)))
-      (within-from firstMethod (length (d .methods)) (firstMethod + k) (omega arith) (omega arith)))
-
-  -- A step that can be taken is tried.
-  pub is-candidate : (limit n : ℕ) (s : State) (w : List Waiting) (x : Step) (done : List ℕ) (s′ : State) (w′ : List Waiting)
-      → stepped limit d n s w x ≡ taken done s′ w′ → List·Memᴰ x (candidates d w)
-  unfolding candidates stepsAt
-  is-candidate limit n s w x done s′ w′ e =
-      let t = took x done s′ w′ e in
-      within-places (from 0 (length w)) (x .place) x (within-from 0 (length w) (x .place) (omega arith) (omega (arith, t .inside)))
-      (Memᴰ·map (λ m. step m (x .place)) (move-known (reads d (x .move)) (t .by)))
-
   module _ {B : Type 0} (f : Step → Option B) (b : length (d .actions) ≤ 255) (w : List Waiting) where
     pub first-candidate : (y : B) → firstSome f (candidates d w) ≡ some y
         → (x : Step) × List·Memᴰ x (candidates d w) × (f x ≡ some y) × ((z : Step) → List·Memᴰ z (candidates d w) → Before z x → f z ≡ none)
     first-candidate y e = first-rising Before f before-apart (candidates d w) (candidates-rising b w) y e
+
+module _ (r : Rules) where
+  move-known : {n p k : ℕ} {P P′ : Problem} {m : Move} {deed : Deed} → Reads (r .domain) k m → Moved r n P p m deed P′
+      → List·Memᴰ k (movesOf (r .domain))
+  unfolding movesOf
+  move-known as-release (by-release f) = List·Memᴰ·head refl
+  move-known (as-action {k} h) (by-action f g) =
+      List·Memᴰ·tail (Memᴰ·append-left _ (within-from 1 (length (r .domain .actions)) (suc k) (omega arith) (omega arith)))
+  move-known (as-method {k} h) (by-method f g l) =
+      List·Memᴰ·tail
+      (Memᴰ·append-right (from 1 (length (r .domain .actions)))
+      (within-from firstMethod (length (r .domain .methods)) (firstMethod + k) (omega arith) (omega arith)))
+
+  -- A step that can be taken is tried.
+  pub is-candidate : (n : ℕ) (P : Problem) (x : Step) (deed : Deed) (P′ : Problem)
+      → stepped r n P x ≡ taken deed P′ → List·Memᴰ x (candidates (r .domain) (P .waiting))
+  unfolding candidates stepsAt
+  is-candidate n P x deed P′ e =
+      let t = took x deed P′ e in
+      within-places (r .domain) (from 0 (length (P .waiting))) (x .place) x
+      (within-from 0 (length (P .waiting)) (x .place) (omega arith) (omega (arith, t .inside)))
+      (Memᴰ·map (λ m. step m (x .place)) (move-known (reads (r .domain) (x .move)) (t .by)))

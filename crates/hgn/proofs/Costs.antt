@@ -1,4 +1,4 @@
--- The cost of a plan: of two plans one after the other, and at most 268,431,360. Assumes nothing.
+-- The cost of a plan: of two plans one after the other, and at most 4,096 × 65,535. Assumes nothing.
 use Prim.Native.Nat.{ℕ, zero, suc, _+_, _-_, _*_, _≤_}
 use native.Mathlib.Omega.{arith}
 use mathlib.Core.Path.{_≡_, refl}
@@ -7,7 +7,7 @@ use lib.ListN.{length, getD}
 use Rattle.hgn.specs.Meaning.{Action, Domain}
 use Rattle.hgn.specs.Run.{noAction, costOf}
 use Rattle.hgn.specs.Shop.{domain}
-use Rattle.hgn.specs.Demands.{CostsAreBounded}
+use Rattle.hgn.specs.Readings.{CostsAreBounded}
 use Rattle.hgn.proofs.Checked.{action-cost}
 
 pub cost-append : (d : Domain) (p q : List ℕ) → costOf d (p ++ q) ≡ costOf d p + costOf d q
@@ -27,4 +27,7 @@ plan-cost d h [] = omega arith
 plan-cost d h (k ∷ plan) = omega (arith, cost-at (d .actions) h (k - 1), plan-cost d h plan)
 
 pub costs-are-bounded : CostsAreBounded
-costs-are-bounded shop e plan l = omega (arith, plan-cost (domain shop) (action-cost shop e) plan)
+costs-are-bounded = record {
+  bounded = λ shop e plan l. omega (arith, plan-cost (domain shop) (action-cost shop e) plan);
+  product = refl;
+}

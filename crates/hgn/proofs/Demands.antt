@@ -1,29 +1,35 @@
--- Every statement of the page `specs/Demands.antt` is proved. Assumes nothing.
-use Rattle.hgn.specs.Demands.{Proved}
-use Rattle.hgn.proofs.Cases.{marked-cases}
-use Rattle.hgn.proofs.Asked.{demand-1, demand-1-of-search}
+-- Every statement of the pages `specs/Demands.antt`, `specs/Readings.antt` and `specs/Cases.antt` is proved. Assumes nothing.
+use Rattle.hgn.specs.Demands.{Promised}
+use Rattle.hgn.specs.Readings.{Read}
+use Rattle.hgn.proofs.Answered.{demand-1}
 use Rattle.hgn.proofs.Replayed.{demand-2}
-use Rattle.hgn.proofs.Searches.{demand-2-of-search}
+use Rattle.hgn.proofs.Searches.{demand-2-of-search, search-agrees-with-replay}
 use Rattle.hgn.proofs.Cuts.{demand-3}
+use Rattle.hgn.proofs.Replays.{demand-3-of-replays}
 use Rattle.hgn.proofs.Derivations.{accepted-is-derivation}
+use Rattle.hgn.proofs.InOrder.{questions-in-order}
 use Rattle.hgn.proofs.Joins.{first-before-second}
-use Rattle.hgn.proofs.Orders.{networks-are-ordered, operations-are-000s}
+use Rattle.hgn.proofs.Orders.{networks-are-000s}
 use Rattle.hgn.proofs.Checked.{methods-end-in-goals}
 use Rattle.hgn.proofs.Effects.{effects-are-gamma, states-are-sets}
 use Rattle.hgn.proofs.Costs.{costs-are-bounded}
 
-pub proved : Proved
-proved = record {
-  marked-cases = marked-cases;
+pub promised : Promised
+promised = record {
   demand-1 = demand-1;
-  demand-1-of-search = demand-1-of-search;
   demand-2 = demand-2;
   demand-2-of-search = demand-2-of-search;
+  search-agrees-with-replay = search-agrees-with-replay;
   demand-3 = demand-3;
+  demand-3-of-replays = demand-3-of-replays;
+}
+
+pub read : Read
+read = record {
   accepted-is-derivation = accepted-is-derivation;
+  questions-in-order = questions-in-order;
   first-before-second = first-before-second;
-  networks-are-ordered = networks-are-ordered;
-  operations-are-000s = operations-are-000s;
+  networks-are-000s = networks-are-000s;
   methods-end-in-goals = methods-end-in-goals;
   effects-are-gamma = effects-are-gamma;
   states-are-sets = states-are-sets;

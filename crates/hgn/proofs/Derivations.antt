@@ -1,139 +1,172 @@
--- The run accepts exactly the derivations of Definition 1, and a derivation's plan is no longer than its steps.
--- Assumes nothing.
+-- The run accepts exactly the derivations of Definition 1, and a derivation's plan is no longer than its steps. Assumes nothing.
 use Prim.Native.Nat.{ℕ, suc, _+_, _≤_, _<_}
 use native.Mathlib.Omega.{arith}
-use mathlib.Core.Path.{_≡_, refl, sym, ap, _∙_, subst, subst₂}
+use mathlib.Core.Path.{_≡_, refl, sym, ap, ap₂, _∙_, subst, subst₂}
 use mathlib.Core.Bool.{true}
-use mathlib.Core.List.{List, [], _∷_, _++_}
+use mathlib.Core.List.{List, [], _∷_}
 use lib.ListN.{length, getD}
 use Rattle.hgn.specs.Lists.{At}
-use Rattle.hgn.specs.Meaning.{Domain, Action, Method, goalOf, networkOf}
-use Rattle.hgn.specs.State.{State, γ}
-use Rattle.hgn.specs.Network.{Waiting, free, goalAt, noGoal, released, decomposed}
-use Rattle.hgn.specs.Run.{Step, firstMethod, Move, release, act, use-method, moveOf, actionAt, noAction, noMethod, accepted, prepend, ended, run}
-use Rattle.hgn.specs.Shop.{domain}
-use Rattle.hgn.specs.Definition1.{EntailsAll, Satisfies, Relevant, Unconstrained, Derivation, base, satisfaction, application, decomposition}
-use Rattle.hgn.specs.Demands.{AcceptedIsDerivation}
-use Rattle.hgn.proofs.Tests.{at-mem, at-getD, at-lt, at-of-lt, all-hold-iff, formula-holds-iff, relevant-iff, free-iff-unconstrained}
-use Rattle.hgn.proofs.Checked.{shop-actions}
+use Rattle.hgn.specs.Meaning.{Domain, Action, Method, networkOf}
+use Rattle.hgn.specs.State.{State, EntailsAll, Satisfies, γ}
+use Rattle.hgn.specs.Network.{Waiting, step, free, goalAt, noGoal, released, decomposed}
+use Rattle.hgn.specs.Run.{Step, firstMethod, Move, release, act, use-method, moveOf, actionAt, noAction, noMethod, Problem, Rules, Decided, Deed, planOf, stepped, Outcome, accepted, prepend, runBy, run}
+use Rattle.hgn.specs.Run as Run
+use Rattle.hgn.specs.Definition1.{Unconstrained, Stands, Derivation, base, satisfaction, application, decomposition}
+use Rattle.hgn.specs.Readings.{AcceptedIsDerivation}
+use Rattle.hgn.proofs.Tests.{at-mem, at-getD, at-lt, at-of-lt, all-hold-iff, formula-holds-iff, free-iff-unconstrained}
 use Rattle.hgn.proofs.Steps.{Moved, by-release, by-action, by-method, took, takes}
 use Rattle.hgn.proofs.Moves.{Reads, as-release, as-action, as-method, reads, reads-action, reads-method}
 use Rattle.hgn.proofs.Waiting.{length-released}
-use Rattle.hgn.proofs.Runs.{resumes, stopped≢accepted, accepted-plan, accepted-state}
+use Rattle.hgn.proofs.Runs.{resumes, resumed-accepts, ended-nothing, ended-empty}
 
 -- The action of the move `suc k` is action `k` of the list.
 action-at : (d : Domain) {k : ℕ} {a : Action} → At (d .actions) k a → actionAt d (suc k) ≡ a
 action-at d {k} a = ap (λ (i : ℕ). getD (d .actions) i noAction) (omega arith) ∙ at-getD noAction a
 
--- A move at an unconstrained goal, its questions answered, is one step of the run.
-steps-by : (limit : ℕ) (d : Domain) (n : ℕ) (s : State) {w : List Waiting} {p : ℕ} {t : Waiting} → At w p t → Unconstrained w t
-    → (m : ℕ) {done : List ℕ} {s′ : State} {w′ : List Waiting} → Moved limit d n s w p (moveOf d m) done s′ w′
-    → (xs : List Step) → run limit d n s w (record { move = m; place = p } ∷ xs) ≡ prepend done (run limit d (suc n) s′ w′ xs)
-unfolding run
-steps-by limit d n s {w} {p} {t} a u m {done} {s′} {w′} h xs =
-    rw (
-      takes (record { move = m; place = p }) done s′ w′ (record {
-        inside = at-lt a;
-        is-free = ap (free w) (at-getD noGoal a) ∙ free-iff-unconstrained w t (at-mem a) .1 u;
-        by = h;
-      }),
-      run,
-    )
+-- After a step no more wait than the limit.
+pub moved-within : {r : Rules} {n : ℕ} {P : Problem} {p : ℕ} {m : Move} {deed : Deed} {P′ : Problem}
+    → length (P .waiting) ≤ r .limit → Moved r n P p m deed P′ → length (P′ .waiting) ≤ r .limit
+moved-within {P = P} {p = p} l (by-release f) = omega (arith, length-released (P .waiting) p)
+moved-within l (by-action f g) = l
+moved-within l (by-method f g b) = b
+
+-- A free goal at a place of a list within the limit stands there unconstrained.
+stands : {r : Rules} (P : Problem) → length (P .waiting) ≤ r .limit → (p : ℕ) → p < length (P .waiting)
+    → free (P .waiting) (goalAt (P .waiting) p) ≡ true → Stands r P p (goalAt (P .waiting) p)
+stands P l p h e =
+    let a = at-of-lt (P .waiting) p noGoal h in
+    record { within = l; at = a; unconstrained = free-iff-unconstrained (P .waiting) (goalAt (P .waiting) p) (at-mem a) .0 e }
 
 -- Definition 1's conditions on a move at the goal `t` of place `p` answer that move's questions.
-module _ (limit : ℕ) (d : Domain) (n : ℕ) (s : State) {w : List Waiting} {p : ℕ} {t : Waiting} (a : At w p t) where
-  moved-release : Satisfies s (t .formula) → Moved limit d n s w p release [] s (released w p)
+module _ (r : Rules) (dec : Decided r) (n : ℕ) (P : Problem) {p : ℕ} {t : Waiting} (a : At (P .waiting) p t) where
+  moved-release : Satisfies (P .state) (t .formula)
+      → Moved r n P p release (Run.releases (goalAt (P .waiting) p ∷ [])) (record { state = P .state; waiting = released (P .waiting) p })
   moved-release =
-      subst (λ (g : Waiting). Satisfies s (g .formula) → Moved limit d n s w p release [] s (released w p)) (at-getD noGoal a)
-      (λ f. by-release (formula-holds-iff s _ .1 f))
+      subst
+      (λ (g : Waiting). Satisfies (P .state) (g .formula)
+      → Moved r n P p release (Run.releases (goalAt (P .waiting) p ∷ [])) (record { state = P .state; waiting = released (P .waiting) p }))
+      (at-getD noGoal a)
+      (λ f. by-release (formula-holds-iff (P .state) _ .1 f))
 
-  moved-action : {k : ℕ} {x : Action} → At (d .actions) k x → EntailsAll s (x .needs) → Relevant (x .effects) (t .formula)
-      → Moved limit d n s w p (act (suc k)) (suc k ∷ []) (γ s (x .effects)) w
+  moved-action : {k : ℕ} {x : Action} → At (r .domain .actions) k x → EntailsAll (P .state) (x .needs) → r .MayAct x (t .formula)
+      → Moved r n P p (act (suc k)) (Run.takes (suc k)) (record { state = γ (P .state) (x .effects); waiting = P .waiting })
   moved-action {k} c =
       subst₂
-      (λ (y : Action) (g : Waiting). EntailsAll s (y .needs) → Relevant (y .effects) (g .formula)
-      → Moved limit d n s w p (act (suc k)) (suc k ∷ []) (γ s (y .effects)) w)
-      (action-at d c) (at-getD noGoal a)
-      (λ f r. by-action (all-hold-iff s _ .1 f) (relevant-iff _ _ .1 r))
+      (λ (y : Action) (g : Waiting). EntailsAll (P .state) (y .needs) → r .MayAct y (g .formula)
+      → Moved r n P p (act (suc k)) (Run.takes (suc k)) (record { state = γ (P .state) (y .effects); waiting = P .waiting }))
+      (action-at (r .domain) c) (at-getD noGoal a)
+      (λ f g. by-action (all-hold-iff (P .state) _ .1 f) (dec .act-iff _ _ .1 g))
 
-  moved-method : {k : ℕ} {m : Method} → At (d .methods) k m → EntailsAll s (m .needs) → Relevant (goalOf m) (t .formula)
-      → length (decomposed w p n (networkOf m)) ≤ limit → Moved limit d n s w p (use-method k) [] s (decomposed w p n (networkOf m))
+  moved-method : {k : ℕ} {m : Method} → At (r .domain .methods) k m → EntailsAll (P .state) (m .needs) → r .MayUse m (t .formula)
+      → length (decomposed (P .waiting) p (step n) (networkOf m)) ≤ r .limit
+      → Moved r n P p (use-method k) (Run.uses k (goalAt (P .waiting) p))
+      (record { state = P .state; waiting = decomposed (P .waiting) p (step n) (networkOf m) })
   moved-method {k} c =
       subst₂
-      (λ (y : Method) (g : Waiting). EntailsAll s (y .needs) → Relevant (goalOf y) (g .formula) → length (decomposed w p n (networkOf y)) ≤ limit
-      → Moved limit d n s w p (use-method k) [] s (decomposed w p n (networkOf y)))
+      (λ (y : Method) (g : Waiting). EntailsAll (P .state) (y .needs) → r .MayUse y (g .formula)
+      → length (decomposed (P .waiting) p (step n) (networkOf y)) ≤ r .limit
+      → Moved r n P p (use-method k) (Run.uses k (goalAt (P .waiting) p))
+      (record { state = P .state; waiting = decomposed (P .waiting) p (step n) (networkOf y) }))
       (at-getD noMethod c) (at-getD noGoal a)
-      (λ f r l. by-method (all-hold-iff s _ .1 f) (relevant-iff _ _ .1 r) l)
+      (λ f g l. by-method (all-hold-iff (P .state) _ .1 f) (dec .use-iff _ _ .1 g) l)
 
-module _ (limit : ℕ) (d : Domain) where
+-- An accepted run of the steps, told as this plan and this last state.
+pub record RunsTo (r : Rules) (n : ℕ) (P : Problem) (xs : List Step) (plan : List ℕ) (last : State) : Type 0 where
+  pub deeds : List Deed
+  pub runs : run r n P xs ≡ accepted deeds last
+  pub plan-is : plan ≡ planOf deeds
+
+-- A move at an unconstrained goal, its questions answered, put before an accepted run.
+steps-by : (r : Rules) (n : ℕ) (P : Problem) {p : ℕ} {t : Waiting} → Stands r P p t
+    → (m : ℕ) {mv : Move} {deed : Deed} {P′ : Problem} → moveOf (r .domain) m ≡ mv → Moved r n P p mv deed P′
+    → (xs : List Step) {deeds : List Deed} {last : State} → run r (suc n) P′ xs ≡ accepted deeds last
+    → run r n P (record { move = m; place = p } ∷ xs) ≡ accepted (deed ∷ deeds) last
+steps-by r n P {p} {t} s m {mv} {deed} {P′} q h xs {deeds} {last} e =
+    resumed-accepts (stepped r) n P (record { move = m; place = p }) xs deed P′ deeds last
+    (takes (record { move = m; place = p }) deed P′ (record {
+      inside = at-lt (s .at);
+      is-free = ap (free (P .waiting)) (at-getD noGoal (s .at)) ∙ free-iff-unconstrained (P .waiting) t (at-mem (s .at)) .1 (s .unconstrained);
+      by = rw q h;
+    }))
+    e
+
+module _ (r : Rules) (dec : Decided r) where
   -- A derivation runs, to its plan and its last state, and its list is within the limit.
-  pub derivation-runs : length (d .actions) ≤ 255 → {n : ℕ} {s last : State} {w : List Waiting} {xs : List Step} {plan : List ℕ}
-      → Derivation limit d n s w xs plan last → (length w ≤ limit) × (run limit d n s w xs ≡ accepted plan last)
-  unfolding run ended prepend moveOf
-  derivation-runs b base = (omega arith, refl)
-  derivation-runs b (satisfaction {n} {s} {xs} h a u f r) =
-      (h, steps-by limit d n s a u 0 (moved-release limit d n s a f) xs ∙ ap (prepend []) (derivation-runs b r .1))
-  derivation-runs b (application {n} {s} {xs} {k} h a u c f g r) = (
-    h,
-    steps-by limit d n s a u (suc k) (rw (reads-action d k (at-lt c)) (moved-action limit d n s a c f g)) xs
-        ∙ ap (prepend (suc k ∷ [])) (derivation-runs b r .1),
-  )
-  derivation-runs b (decomposition {n} {s} {xs} {k} h a u c f g r) =
-      let i = derivation-runs b r in (
-        h,
-        steps-by limit d n s a u (firstMethod + k) (rw (reads-method d k b (at-lt c)) (moved-method limit d n s a c f g (i .0))) xs
-            ∙ ap (prepend []) (i .1),
+  pub derivation-runs : length (r .domain .actions) ≤ 255 → {n : ℕ} {P : Problem} {last : State} {xs : List Step} {plan : List ℕ}
+      → Derivation r n P xs plan last → (length (P .waiting) ≤ r .limit) × RunsTo r n P xs plan last
+  unfolding runBy planOf moveOf
+  derivation-runs b (base {n} {s}) = (omega arith, record { deeds = []; runs = ended-nothing n s; plan-is = refl })
+  derivation-runs b (satisfaction {n} {P} {xs = xs} h f i) =
+      let o = derivation-runs b i .1 in (
+        h .within,
+        record {
+          deeds = _;
+          runs = steps-by r n P h 0 refl (moved-release r dec n P (h .at) f) xs (o .runs);
+          plan-is = o .plan-is;
+        },
+      )
+  derivation-runs b (application {n} {P} {xs = xs} {k = k} h c f g i) =
+      let o = derivation-runs b i .1 in (
+        h .within,
+        record {
+          deeds = _;
+          runs = steps-by r n P h (suc k) (reads-action (r .domain) k (at-lt c)) (moved-action r dec n P (h .at) c f g) xs (o .runs);
+          plan-is = ap (λ (l : List ℕ). suc k ∷ l) (o .plan-is);
+        },
+      )
+  derivation-runs b (decomposition {n} {P} {xs = xs} {k = k} h c f g i) =
+      let t = derivation-runs b i in
+      let o = t .1 in (
+        h .within,
+        record {
+          deeds = _;
+          runs = steps-by r n P h (firstMethod + k) (reads-method (r .domain) k b (at-lt c)) (moved-method r dec n P (h .at) c f g (t .0)) xs (o .runs);
+          plan-is = o .plan-is;
+        },
       )
 
   -- A taken step, put before a derivation of what is left.
-  derives-by : (n : ℕ) (s : State) (w : List Waiting) {p move : ℕ} {m : Move} {done : List ℕ} {s′ : State} {w′ : List Waiting} → length w ≤ limit
-      → p < length w → free w (goalAt w p) ≡ true → Reads d move m → Moved limit d n s w p m done s′ w′
-      → {xs : List Step} {plan : List ℕ} {last : State} → Derivation limit d (suc n) s′ w′ xs plan last
-      → Derivation limit d n s w (record { move = move; place = p } ∷ xs) (done ++ plan) last
-  derives-by n s w {p} l h e as-release (by-release f) i =
-      let a = at-of-lt w p noGoal h in
-      satisfaction l a (free-iff-unconstrained w (goalAt w p) (at-mem a) .0 e) (formula-holds-iff s _ .0 f) i
-  derives-by n s w {p} l h e (as-action {k} c) (by-action f g) i =
-      let a = at-of-lt w p noGoal h in
-      let b = at-of-lt (d .actions) k noAction c in
-      application l a (free-iff-unconstrained w (goalAt w p) (at-mem a) .0 e) (subst (At (d .actions) k) (sym (action-at d b)) b)
-      (all-hold-iff s _ .0 f) (relevant-iff _ _ .0 g) i
-  derives-by n s w {p} l h e (as-method {k} c) (by-method f g b) i =
-      let a = at-of-lt w p noGoal h in
-      decomposition l a (free-iff-unconstrained w (goalAt w p) (at-mem a) .0 e) (at-of-lt (d .methods) k noMethod c)
-      (all-hold-iff s _ .0 f) (relevant-iff _ _ .0 g) i
-
-  -- After a step no more wait than the limit.
-  pub moved-within : (n : ℕ) (s : State) (w : List Waiting) {p : ℕ} {m : Move} {done : List ℕ} {s′ : State} {w′ : List Waiting}
-      → length w ≤ limit → Moved limit d n s w p m done s′ w′ → length w′ ≤ limit
-  moved-within n s w {p} l (by-release f) = omega (arith, length-released w p)
-  moved-within n s w l (by-action f g) = l
-  moved-within n s w l (by-method f g b) = b
+  derives-by : (n : ℕ) (P : Problem) {p move : ℕ} {m : Move} {deed : Deed} {P′ : Problem} → length (P .waiting) ≤ r .limit
+      → p < length (P .waiting) → free (P .waiting) (goalAt (P .waiting) p) ≡ true → Reads (r .domain) move m → Moved r n P p m deed P′
+      → (deeds : List Deed) {xs : List Step} {last : State} → Derivation r (suc n) P′ xs (planOf deeds) last
+      → Derivation r n P (record { move = move; place = p } ∷ xs) (planOf (deed ∷ deeds)) last
+  unfolding planOf
+  derives-by n P {p} l h e as-release (by-release f) deeds i =
+      satisfaction (stands P l p h e) (formula-holds-iff (P .state) _ .0 f) i
+  derives-by n P {p} l h e (as-action {k} c) (by-action f g) deeds i =
+      let b = at-of-lt (r .domain .actions) k noAction c in
+      application (stands P l p h e) (subst (At (r .domain .actions) k) (sym (action-at (r .domain) b)) b)
+      (all-hold-iff (P .state) _ .0 f) (dec .act-iff _ _ .0 g) i
+  derives-by n P {p} l h e (as-method {k} c) (by-method f g b) deeds i =
+      decomposition (stands P l p h e) (at-of-lt (r .domain .methods) k noMethod c)
+      (all-hold-iff (P .state) _ .0 f) (dec .use-iff _ _ .0 g) i
 
   -- An accepted run from a list within the limit is a derivation of its plan and its last state.
-  pub run-derives : (n : ℕ) (s : State) (w : List Waiting) (xs : List Step) (plan : List ℕ) (last : State) → length w ≤ limit
-      → run limit d n s w xs ≡ accepted plan last → Derivation limit d n s w xs plan last
-  unfolding run ended
-  run-derives n s [] [] plan last l e = subst₂ (Derivation limit d n s [] []) (accepted-plan e) (accepted-state e) base
-  run-derives n s (g ∷ w) [] plan last l e = absurd (stopped≢accepted e)
-  run-derives n s w (x ∷ xs) plan last l e =
-      let f = resumes limit d n s w x xs plan last e in
-      let t = took x (f .done) (f .next) (f .list) (f .first) in
-      subst (λ (p : List ℕ). Derivation limit d n s w (x ∷ xs) p last) (sym (f .whole))
-      (derives-by n s w l (t .inside) (t .is-free) (reads d (x .move)) (t .by)
-      (run-derives (suc n) (f .next) (f .list) xs (f .rest) last (moved-within n s w l (t .by)) (f .goes-on)))
+  pub run-derives : (n : ℕ) (P : Problem) (xs : List Step) (deeds : List Deed) (last : State) → length (P .waiting) ≤ r .limit
+      → run r n P xs ≡ accepted deeds last → Derivation r n P xs (planOf deeds) last
+  unfolding runBy planOf
+  run-derives n P [] deeds last l e =
+      let z = ended-empty n P deeds last e in
+      subst₂ (λ (s : State) (k : List Deed). Derivation r n (record { state = P .state; waiting = P .waiting }) [] (planOf k) s) (z .2) (sym (z .1))
+      (subst (λ (w : List Waiting). Derivation r n (record { state = P .state; waiting = w }) [] [] (P .state)) (sym (z .0)) base)
+  run-derives n P (x ∷ xs) deeds last l e =
+      let f = resumes (stepped r) n P x xs deeds last e in
+      let t = took x (f .deed) (f .left) (f .first) in
+      subst (λ (k : List Deed). Derivation r n P (x ∷ xs) (planOf k) last) (sym (f .whole))
+      (derives-by n P l (t .inside) (t .is-free) (reads (r .domain) (x .move)) (t .by) (f .rest)
+      (run-derives (suc n) (f .left) xs (f .rest) last (moved-within l (t .by)) (f .goes-on)))
 
 -- Accepted steps are a derivation, and back.
 pub accepted-is-derivation : AcceptedIsDerivation
-accepted-is-derivation shop e limit s w xs plan last = (
-  (λ a. run-derives limit (domain shop) 0 s w xs plan last (a .within) (a .runs)),
-  (λ h. let r = derivation-runs limit (domain shop) (shop-actions shop e) h in record { within = r .0; runs = r .1 }),
+accepted-is-derivation r dec b P xs plan last = (
+  (λ a. subst (λ (p : List ℕ). Derivation r 0 P xs p last) (sym (a .plan-is)) (run-derives r dec 0 P xs (a .deeds) last (a .within) (a .runs))),
+  (λ h. let t = derivation-runs r dec b h in record { within = t .0; deeds = t .1 .deeds; runs = t .1 .runs; plan-is = t .1 .plan-is }),
 )
 
 -- A plan has at most one action for each step.
-pub plan-short : {limit n : ℕ} {d : Domain} {s last : State} {w : List Waiting} {xs : List Step} {plan : List ℕ}
-    → Derivation limit d n s w xs plan last → length plan ≤ length xs
+pub plan-short : {r : Rules} {n : ℕ} {P : Problem} {last : State} {xs : List Step} {plan : List ℕ}
+    → Derivation r n P xs plan last → length plan ≤ length xs
 plan-short base = omega arith
-plan-short (satisfaction h a u f r) = omega (arith, plan-short r)
-plan-short (application h a u c f g r) = omega (arith, plan-short r)
-plan-short (decomposition h a u c f g r) = omega (arith, plan-short r)
+plan-short (satisfaction h f i) = omega (arith, plan-short i)
+plan-short (application h c f g i) = omega (arith, plan-short i)
+plan-short (decomposition h c f g i) = omega (arith, plan-short i)

@@ -1,4 +1,4 @@
--- An action's effects row by row are γ of 000, atom by atom.
+-- γ is that of 000, atom by atom, and states are sets of atoms. Assumes nothing.
 use Prim.Native.Nat.{ℕ, _<_}
 use mathlib.Core.Path.{_≡_, refl, sym, ap, _∙_}
 use mathlib.Core.Bool.{Bool, true, false, cond, _&&_, _||_, or-true, Bool·beq, false≢true}
@@ -7,17 +7,15 @@ use mathlib.Core.List.{List, [], _∷_, List·Memᴰ, List·Memᴰ·head, List·
 use native.Mathlib.Omega.{arith}
 use lib.Dec.{eqb}
 use lib.ListN.{length, getD, set, replicate, length-set, length-replicate}
-use lib.Seq.{getD-set-same, getD-set-other, set-comm}
+use lib.Seq.{getD-set-same, getD-set-other}
 use borrow.Author.Tests.{eqb-true, eqb-false, eq-eqb}
 use Rattle.hgn.specs.Lists.{any, among}
-use Rattle.hgn.specs.Meaning.{Literal, Domain, Order}
-use Rattle.hgn.specs.State.{State, mostAtoms, emptyState, assign, atomsOf, γ, byRows}
-use Rattle.hgn.specs.Network.{Waiting}
-use Rattle.hgn.specs.Run.{Move, startOf}
-use Rattle.hgn.specs.Demands.{EffectsAreGamma, In, InEffect, Reached, first, next, StatesAreSetsOfAtoms}
+use Rattle.hgn.specs.Meaning.{Literal, Order}
+use Rattle.hgn.specs.State.{State, mostAtoms, emptyState, assign, atomsOf, γ}
+use Rattle.hgn.specs.Run.{Step, Move, Problem, startOf, Rules, Deed}
+use Rattle.hgn.specs.Readings.{EffectsAreGamma, In, InEffect, Reached, first, next, StatesAreSetsOfAtoms}
 use Rattle.hgn.proofs.Tests.{beq-true, eq-beq, replicate-default, among-true, true-among}
 use Rattle.hgn.proofs.Steps.{Moved, by-release, by-action, by-method, took}
-use Rattle.hgn.proofs.Checked.{Rising, effects-rise}
 
 length-assign : (b : Bool) (atoms : List ℕ) (s : State) → length (assign b atoms s) ≡ length s
 unfolding assign
@@ -77,33 +75,8 @@ unfolding γ
     go false false e f =
         (λ k. inl (k, λ m. false≢true (sym f ∙ mem-among m)), ⊎-elim (λ k. k .0) (λ m. absurd (false≢true (sym e ∙ mem-among m))))
 
--- An atom below all the others can as well be set last.
-assign-above : (b v : Bool) (a i : ℕ) (ls : List Literal) (s : State) → a < i → Rising i ls
-    → assign b (atomsOf b ls) (set s a v) ≡ set (assign b (atomsOf b ls) s) a v
-unfolding assign atomsOf
-assign-above b v a i [] s h r = refl
-assign-above b v a i (l ∷ ls) s h r = go (Bool·beq (l .sign) b) (λ s. assign-above b v a _ ls s (omega arith) (r .1))
-  where
-    go : (x : Bool) → ((s : State) → assign b (atomsOf b ls) (set s a v) ≡ set (assign b (atomsOf b ls) s) a v)
-        → assign b (cond x (l .atom ∷ atomsOf b ls) (atomsOf b ls)) (set s a v) ≡ set (assign b (cond x (l .atom ∷ atomsOf b ls) (atomsOf b ls)) s) a v
-    go true ih = ap (assign b (atomsOf b ls)) (set-comm s a (l .atom) v b (omega arith)) ∙ ih (set s (l .atom) b)
-    go false ih = ih s
-
--- Where the atoms rise, none stands twice, and row after row is the two passes.
-rows-γ : (i : ℕ) (ls : List Literal) (s : State) → Rising i ls → byRows s ls ≡ γ s ls
-unfolding byRows γ assign atomsOf
-rows-γ i [] s r = refl
-rows-γ i (l ∷ ls) s r = rows-γ _ ls (set s (l .atom) (l .sign)) (r .1) ∙ go (l .sign)
-  where
-    go : (x : Bool) → γ (set s (l .atom) x) ls ≡ γ s (record { sign = x; atom = l .atom } ∷ ls)
-    go true = ap (assign true (atomsOf true ls)) (assign-above false true (l .atom) _ ls s (omega arith) (r .1))
-    go false = refl
-
 pub effects-are-gamma : EffectsAreGamma
-effects-are-gamma shop e a m s h =
-    let same = rows-γ 0 (a .effects) s (effects-rise shop e a m) in
-    let sets : (p : ℕ) → p < 256 → In (γ s (a .effects)) p ↔ InEffect s (a .effects) p = λ p k. γ-set s (a .effects) p (rw h k) in
-    record { by-sets = sets; by-rows = λ p k. rw same (sets p k); same = same }
+effects-are-gamma = γ-set
 
 -- At first the state is the atoms of the 12 rows.
 start-rows : (o : Order) (p : ℕ) → p < mostAtoms → In (startOf o) p ↔ List·Memᴰ p (o .start)
@@ -116,22 +89,21 @@ start-rows o p h =
     go true e = refl
     go false e = e
 
-moved-length : {limit : ℕ} {d : Domain} {n : ℕ} {s : State} {w : List Waiting} {p : ℕ} {m : Move} {done : List ℕ} {s′ : State} {w′ : List Waiting}
-    → Moved limit d n s w p m done s′ w′ → length s′ ≡ length s
+moved-length : {r : Rules} {n : ℕ} {P : Problem} {p : ℕ} {m : Move} {deed : Deed} {P′ : Problem}
+    → Moved r n P p m deed P′ → length (P′ .state) ≡ length (P .state)
 unfolding γ
 moved-length (by-release h) = refl
-moved-length {s = s} (by-action h r) = length-assign true _ _ ∙ length-assign false _ s
-moved-length (by-method h r l) = refl
+moved-length {P = P} (by-action h k) = length-assign true _ _ ∙ length-assign false _ (P .state)
+moved-length (by-method h k l) = refl
 
-reached-whole : {limit : ℕ} {d : Domain} {o : Order} {n : ℕ} {s₀ s : State} {w : List Waiting} → Reached limit d s₀ o n s w
-    → length s ≡ length s₀
+reached-whole : {r : Rules} {P Q : Problem} {xs : List Step} → Reached r P xs Q → length (Q .state) ≡ length (P .state)
 reached-whole first = refl
-reached-whole (next {done = done} x r e) = moved-length (took x done _ _ e .by) ∙ reached-whole r
+reached-whole (next {deed = deed} x i e) = moved-length (took x deed _ e .by) ∙ reached-whole i
 
 pub states-are-sets : StatesAreSetsOfAtoms
 unfolding startOf emptyState
-states-are-sets o = record {
-  at-first = start-rows o;
-  first-whole = length-assign true (o .start) (replicate mostAtoms false) ∙ length-replicate mostAtoms false;
-  whole = λ limit n d s₀ s w r h. reached-whole r ∙ h;
+states-are-sets = record {
+  at-first = start-rows;
+  first-whole = λ o. length-assign true (o .start) (replicate mostAtoms false) ∙ length-replicate mostAtoms false;
+  whole = λ r P Q xs i. reached-whole i;
 }

@@ -13,11 +13,14 @@ use lib.ListN.{length, getD, take, drop, length-append, length-map, List·getD-m
 use lib.Seq.{take-append-le, drop-append-le}
 use borrow.Author.Tests.{lt-ltb, le-leb, lt-leb, leb-true, leb-false}
 use Rattle.hgn.specs.Lists.{any}
-use Rattle.hgn.specs.Meaning.{Node, Domain, goalOf, networkOf}
-use Rattle.hgn.specs.State.{State, allHold, formulaHolds, relevant}
+use Rattle.hgn.specs.Questions.{Question, _asks_, Verdict, passed, firstNo}
+use Rattle.hgn.specs.Questions as Questions
+use Rattle.hgn.specs.Meaning.{Node, networkOf}
+use Rattle.hgn.specs.State.{formulaHolds}
 use Rattle.hgn.specs.Network.{Waiting, step, comesAfter, free, anyFree, enter, goalAt, noGoal, released, decomposed}
-use Rattle.hgn.specs.Run.{Step, Move, release, act, use-method, unknown, moveOf, actionAt, methodAt, Stepped, refused, taken, ask, askFree, moved, stepped}
+use Rattle.hgn.specs.Run.{Step, Move, release, act, use-method, unknown, moveOf, known, actionAt, methodAt, Problem, Rules, limited, moved, ownQuestions, stepQuestions, Deed, releases, takes, uses, deedOf, Stepped, refused, taken, stepped}
 use Rattle.hgn.proofs.Tests.{any-append, at-mem, at-of-lt}
+use Rattle.hgn.proofs.Steps.{step-refused, step-passed}
 
 -- Lists.
 
@@ -66,19 +69,24 @@ pub record Embeds (f : Waiting → Waiting) (w v : List Waiting) (n n′ : ℕ) 
   pub apart : (q g : Waiting) → List·Memᴰ q w → List·Memᴰ g v → comesAfter (f q) g ≡ false
   pub blocked : (g : Waiting) → List·Memᴰ g v → free (map f w ++ v) g ≡ false
 
+-- What a step did, renamed.
+unfoldable pub renamedDeed : (Waiting → Waiting) → Deed → Deed
+renamedDeed f (releases gs) = releases (map f gs)
+renamedDeed f (takes k) = takes k
+renamedDeed f (uses m g) = uses m (f g)
+
+-- A problem, renamed and in front of `v`.
+abbrev pub embedded : (Waiting → Waiting) → List Waiting → Problem → Problem
+embedded f v P = record { state = P .state; waiting = map f (P .waiting) ++ v }
+
 -- What a step comes to, renamed and in front of `v`.
 unfoldable pub carried : (Waiting → Waiting) → List Waiting → Stepped → Stepped
-carried f v (refused number) = refused number
-carried f v (taken done s w) = taken done s (map f w ++ v)
+carried f v (refused q) = refused q
+carried f v (taken deed P) = taken (renamedDeed f deed) (embedded f v P)
 
-carried-ask : (f : Waiting → Waiting) (v : List Waiting) (b : Bool) (number : ℕ) (r : Stepped) → carried f v (ask b number r) ≡ ask b number (carried f v r)
-unfolding ask carried
-carried-ask f v true number r = refl
-carried-ask f v false number r = refl
-
--- Two questions with equal tests and equal continuations.
-same-ask : {a b : Bool} (number : ℕ) {r t : Stepped} → a ≡ b → r ≡ t → ask a number r ≡ ask b number t
-same-ask number {r} {t} p q = ap₂ (λ (a : Bool) (r : Stepped). ask a number r) p q
+-- Two questions with equal answers, before equal questions.
+same-question : (number : ℕ) {b c : Bool} {qs rs : List Question} → b ≡ c → qs ≡ rs → (number asks b ∷ qs) ≡ (number asks c ∷ rs)
+same-question number e h = ap₂ {C = List Question} (λ b qs. number asks b ∷ qs) e h
 
 -- The limit counts the goals behind.
 leb-behind : (a b c : ℕ) → leb (a + c) (b + c) ≡ leb a b
@@ -130,7 +138,7 @@ module _ (f : Waiting → Waiting) (w v : List Waiting) (n n′ : ℕ) (em : Emb
         ∙ sym (append-assoc (map f (take p w)) (map f (drop (suc p) w)) v)
         ∙ ap {B = List Waiting} (λ l. l ++ v) (sym (map-append f (take p w) (drop (suc p) w)))
 
-    decomposed-carried : (nodes : List Node) → decomposed (map f w ++ v) p n′ nodes ≡ map f (decomposed w p n nodes) ++ v
+    decomposed-carried : (nodes : List Node) → decomposed (map f w ++ v) p (step n′) nodes ≡ map f (decomposed w p (step n) nodes) ++ v
     unfolding decomposed
     decomposed-carried nodes =
         ap₂ {C = List Waiting} (λ a b. a ++ b)
@@ -146,51 +154,73 @@ module _ (f : Waiting → Waiting) (w v : List Waiting) (n n′ : ℕ) (em : Emb
         new : List Waiting
         new = enter (step n) (some (goalAt w p .name)) 0 nodes
 
-    free-asked : (r t : Stepped) → r ≡ carried f v t
-        → askFree (map f w ++ v) (goalAt (map f w ++ v) p) r ≡ carried f v (askFree w (goalAt w p) t)
-    unfolding askFree
-    free-asked r t e =
-        same-ask 27 any-free-carried
-        (same-ask 28 (ap (free (map f w ++ v)) goal-carried ∙ free-carried (goalAt w p) (at-mem (at-of-lt w p noGoal h))) e
-        ∙ sym (carried-ask f v (free w (goalAt w p)) 28 t))
-        ∙ sym (carried-ask f v (anyFree w) 27 (ask (free w (goalAt w p)) 28 t))
+module _ (f : Waiting → Waiting) (v : List Waiting) (n n′ : ℕ) (P : Problem) (em : Embeds f (P .waiting) v n n′) (r : Rules) where
+  -- The rules with a limit that counts the goals behind.
+  abbrev wide : Rules
+  wide = limited (r .limit + length v) r
 
-    module _ (limit : ℕ) (d : Domain) (s : State) where
-      moved-carried : (m : Move) → moved (limit + length v) d n′ s (map f w ++ v) p m ≡ carried f v (moved limit d n s w p m)
-      unfolding moved carried
-      moved-carried release =
-          free-asked _ _
-          (same-ask 29 (ap (formulaHolds s) formula-carried) (ap (taken [] s) released-carried)
-          ∙ sym (carried-ask f v (formulaHolds s (goalAt w p .formula)) 29 (taken [] s (released w p))))
-      moved-carried (act k) =
-          free-asked _ _
-          (ap (ask (allHold s (actionAt d k .needs)) 30)
-          (same-ask 31 (ap (relevant (actionAt d k .effects)) formula-carried) refl
-          ∙ sym (carried-ask f v (relevant (actionAt d k .effects) (goalAt w p .formula)) 31 _))
-          ∙ sym (carried-ask f v (allHold s (actionAt d k .needs)) 30 _))
-      moved-carried (use-method m) =
-          free-asked _ _
-          (ap (ask (allHold s (methodAt d m .needs)) 30)
-          (same-ask 31 (ap (relevant (goalOf (methodAt d m))) formula-carried)
-          (same-ask 32 (room (networkOf (methodAt d m))) (ap (taken [] s) (decomposed-carried (networkOf (methodAt d m))))
-          ∙ sym (carried-ask f v (leb (length (decomposed w p n (networkOf (methodAt d m)))) limit) 32 _))
-          ∙ sym (carried-ask f v (relevant (goalOf (methodAt d m)) (goalAt w p .formula)) 31 _))
-          ∙ sym (carried-ask f v (allHold s (methodAt d m .needs)) 30 _))
-        where
-          room : (nodes : List Node) → leb (length (decomposed (map f w ++ v) p n′ nodes)) (limit + length v) ≡ leb (length (decomposed w p n nodes)) limit
-          room nodes =
-              ap (λ (l : List Waiting). leb (length l) (limit + length v)) (decomposed-carried nodes)
-              ∙ ap (λ (k : ℕ). leb k (limit + length v)) (length-append (map f (decomposed w p n nodes)) v ∙ ap (λ (k : ℕ). k + length v) (length-map (decomposed w p n nodes) f))
-              ∙ leb-behind (length (decomposed w p n nodes)) limit (length v)
-      moved-carried unknown = refl
+  module _ (p : ℕ) (h : p < length (P .waiting)) where
+    abbrev same-formula : goalAt (map f (P .waiting) ++ v) p .formula ≡ goalAt (P .waiting) p .formula
+    same-formula = formula-carried f (P .waiting) v n n′ em p h
 
--- The step on the embedded network is the step on the network, carried over, refusals included.
-pub step-carried : (f : Waiting → Waiting) (w v : List Waiting) (n n′ : ℕ) → Embeds f w v n n′ → (limit : ℕ) (d : Domain) (s : State) (x : Step)
-    → x .place < length w → stepped (limit + length v) d n′ s (map f w ++ v) x ≡ carried f v (stepped limit d n s w x)
-unfolding stepped
-step-carried f w v n n′ em limit d s x h =
-    same-ask 25 (lt-ltb _ _ longer ∙ sym (lt-ltb _ _ h)) (moved-carried f w v n n′ em (x .place) h limit d s (moveOf d (x .move)))
-    ∙ sym (carried-ask f v (ltb (x .place) (length w)) 25 _)
-  where
-    longer : x .place < length (map f w ++ v)
-    longer = rw (length-append, length-map) (omega arith)
+    own-carried : (m : Move) → ownQuestions wide n′ (embedded f v P) p m ≡ ownQuestions r n P p m
+    unfolding ownQuestions moved
+    own-carried release = same-question 29 (ap (formulaHolds (P .state)) same-formula) refl
+    own-carried (act k) = same-question 30 refl (same-question 31 (ap (r .mayAct (actionAt (r .domain) k)) same-formula) refl)
+    own-carried (use-method m) =
+        same-question 30 refl
+        (same-question 31 (ap (r .mayUse (methodAt (r .domain) m)) same-formula) (same-question 32 (room (networkOf (methodAt (r .domain) m))) refl))
+      where
+        room : (nodes : List Node)
+            → leb (length (decomposed (map f (P .waiting) ++ v) p (step n′) nodes)) (r .limit + length v) ≡ leb (length (decomposed (P .waiting) p (step n) nodes)) (r .limit)
+        room nodes =
+            let w = decomposed (P .waiting) p (step n) nodes in
+            ap (λ (l : List Waiting). leb (length l) (r .limit + length v)) (decomposed-carried f (P .waiting) v n n′ em p h nodes)
+            ∙ ap (λ (k : ℕ). leb k (r .limit + length v)) (length-append (map f w) v ∙ ap (λ (k : ℕ). k + length v) (length-map w f))
+            ∙ leb-behind (length w) (r .limit) (length v)
+    own-carried unknown = refl
+
+    moved-carried : (m : Move) → moved (r .domain) n′ (embedded f v P) p m ≡ embedded f v (moved (r .domain) n P p m)
+    unfolding moved
+    moved-carried release = ap {B = Problem} (λ w. record { state = P .state; waiting = w }) (released-carried f (P .waiting) v n n′ em p h)
+    moved-carried (act k) = refl
+    moved-carried (use-method m) =
+        ap {B = Problem} (λ w. record { state = P .state; waiting = w }) (decomposed-carried f (P .waiting) v n n′ em p h (networkOf (methodAt (r .domain) m)))
+    moved-carried unknown = refl
+
+    deed-carried : (m : Move) → deedOf (embedded f v P) p m ≡ renamedDeed f (deedOf P p m)
+    unfolding deedOf renamedDeed
+    deed-carried release = ap (λ (g : Waiting). releases (g ∷ [])) (goal-carried f (P .waiting) v n n′ em p h)
+    deed-carried (act k) = refl
+    deed-carried (use-method m) = ap (uses m) (goal-carried f (P .waiting) v n n′ em p h)
+    deed-carried unknown = refl
+
+  -- A step at a place of the network asks the same questions of the embedded one.
+  questions-carried : (x : Step) → x .place < length (P .waiting) → stepQuestions wide n′ (embedded f v P) x ≡ stepQuestions r n P x
+  unfolding stepQuestions
+  questions-carried x h =
+      same-question 25 (lt-ltb _ _ longer ∙ sym (lt-ltb _ _ h))
+      (same-question 26 refl
+      (same-question 27 (any-free-carried f (P .waiting) v n n′ em)
+      (same-question 28 (ap (free (map f (P .waiting) ++ v)) (goal-carried f (P .waiting) v n n′ em (x .place) h) ∙ is-free) (own-carried (x .place) h (moveOf (r .domain) (x .move))))))
+    where
+      longer : x .place < length (map f (P .waiting) ++ v)
+      longer = rw (length-append, length-map) (omega arith)
+
+      is-free : free (map f (P .waiting) ++ v) (f (goalAt (P .waiting) (x .place))) ≡ free (P .waiting) (goalAt (P .waiting) (x .place))
+      is-free = free-carried f (P .waiting) v n n′ em (goalAt (P .waiting) (x .place)) (at-mem (at-of-lt (P .waiting) (x .place) noGoal h))
+
+  -- The step on the embedded network is the step on the network, carried over, refusals included.
+  pub step-carried : (x : Step) → x .place < length (P .waiting) → stepped wide n′ (embedded f v P) x ≡ carried f v (stepped r n P x)
+  unfolding carried
+  step-carried x h = go (firstNo (stepQuestions r n P x)) refl
+    where
+      same : firstNo (stepQuestions wide n′ (embedded f v P) x) ≡ firstNo (stepQuestions r n P x)
+      same = ap firstNo (questions-carried x h)
+
+      go : (o : Verdict) → firstNo (stepQuestions r n P x) ≡ o → stepped wide n′ (embedded f v P) x ≡ carried f v (stepped r n P x)
+      go (Questions.refused q) e = step-refused wide n′ (embedded f v P) x q (same ∙ e) ∙ sym (ap (carried f v) (step-refused r n P x q e))
+      go passed e =
+          step-passed wide n′ (embedded f v P) x (same ∙ e)
+          ∙ ap₂ taken (deed-carried (x .place) h (moveOf (r .domain) (x .move))) (moved-carried (x .place) h (moveOf (r .domain) (x .move)))
+          ∙ sym (ap (carried f v) (step-passed r n P x e))

@@ -3,15 +3,15 @@ use Prim.Native.Nat.{ℕ, _+_, _*_, _≤_}
 use native.Mathlib.Omega.{arith}
 use mathlib.Core.Path.{_≡_, refl, sym, ap, _∙_}
 use mathlib.Core.List.{List, [], _∷_, _++_, map, zipWith}
-use mathlib.Core.Option.{some}
-use lib.ListN.{length, drop, length-append, length-drop, length-map}
+use lib.ListN.{length, take, drop, length-append, length-drop, length-map}
 use lib.Seq.{take-append-seam, drop-append-seam}
 use Rattle.hgn.specs.Run.{Step}
-use Rattle.hgn.specs.Verdict.{passed, andThen}
+use Rattle.hgn.specs.Questions.{passed}
 use Rattle.hgn.specs.Order.{checkOrder}
-use Rattle.hgn.specs.Trace.{sizeWords, mostSteps, step, stepsOf, traceQuestions, checkTrace}
-use Rattle.hgn.specs.Search.{traceWords, written}
+use Rattle.hgn.specs.Trace.{sizeWords, mostSteps, step, stepsOf, traceWords, checkTrace}
+use Rattle.hgn.specs.Search.{written}
 use Rattle.hgn.specs.Demands.{Finds}
+use Rattle.hgn.proofs.Passed.{passed-trace}
 use Rattle.hgn.proofs.Traces as Traces
 use Rattle.hgn.proofs.Traces.{written-passes, written-steps}
 
@@ -43,22 +43,23 @@ module _ (xs : List Step) where
 
   pub words-pass : (shop sheet : List ℕ) → checkOrder shop sheet ≡ passed → length xs ≤ mostSteps
       → checkTrace shop sheet (traceWords xs) ≡ passed
-  unfolding checkTrace andThen
   words-pass shop sheet e h =
-      rw e
-      (ap traceQuestions words
-      ∙ written-passes (movesIn xs) (placesIn xs) both (omega (arith, length-map xs (λ x. x .move))))
+      passed-trace shop sheet (traceWords xs) e
+      (rw words (written-passes (movesIn xs) (placesIn xs) both (omega (arith, length-map xs (λ x. x .move)))))
+
+  -- The words of the trace in front of others.
+  first-words : (rest : List ℕ) → take (sizeWords + 2 * length xs) (traceWords xs ++ rest) ≡ traceWords xs
+  first-words rest = rw (← words-length) (take-append-seam (traceWords xs) rest)
 
   -- The answer of a search that found these steps.
   pub finds : (shop sheet room : List ℕ) → checkOrder shop sheet ≡ passed → length xs ≤ mostSteps
-      → sizeWords + 2 * length xs ≤ length room → Finds shop sheet room xs (written room (some xs))
+      → sizeWords + 2 * length xs ≤ length room → Finds shop sheet room xs (written room xs)
   unfolding written
   finds shop sheet room e h l = record {
     number = refl;
     place = refl;
-    trace-words = rw (← words-length) (take-append-seam (traceWords xs) _);
     later-words = rw (← words-length) (drop-append-seam (traceWords xs) _);
     room-length = omega (arith, length-append (traceWords xs) (drop (length (traceWords xs)) room), length-drop (length (traceWords xs)) room, words-length);
-    trace-passes = words-pass shop sheet e h;
-    trace-steps = words-steps;
+    trace-passes = rw first-words (words-pass shop sheet e h);
+    trace-steps = rw first-words words-steps;
   }

@@ -9,10 +9,9 @@ use mathlib.Core.List.{List, [], _∷_, _++_, map-id, List·Memᴰ, List·Memᴰ
 use mathlib.Core.Option.{Option, none, some, Option·none-ne-some}
 use lib.ListN.{take, drop}
 use Rattle.hgn.specs.Lists.{At, there}
-use Rattle.hgn.specs.Meaning.{Domain, Node}
-use Rattle.hgn.specs.State.{State}
+use Rattle.hgn.specs.Meaning.{Node}
 use Rattle.hgn.specs.Network.{order, step, Name, Waiting, comesAfter, free, enter, goalAt, noGoal, released, decomposed}
-use Rattle.hgn.specs.Run.{Step, Move, stepped, taken}
+use Rattle.hgn.specs.Run.{Step, Move, Problem, Rules, Deed, stepped, taken}
 use Rattle.hgn.specs.Definition1.{Listed, by-row, by-method}
 use Rattle.hgn.proofs.Tests.{at-mem, at-of-lt, comes-after-iff, free-iff-none-listed, not-true-false}
 use Rattle.hgn.proofs.Steps.{Moved, by-release, by-action, Took, took}
@@ -123,20 +122,20 @@ front-inserted g n t nodes (q ∷ w) (suc p) (there a) (f, u) = (keeps f, front-
     keeps (brought {r = r} o m e) = brought o (inserted-old (enter (step n) (some (t .name)) 0 nodes) a m) e
 
 -- Every step that is taken keeps a first part a first part.
-pub front-step : (g limit : ℕ) (d : Domain) (n : ℕ) (s : State) (w : List Waiting) (x : Step) (done : List ℕ) (s′ : State) (w′ : List Waiting)
-    → Front g w → stepped limit d n s w x ≡ taken done s′ w′ → Front g w′
+pub front-step : (g : ℕ) (r : Rules) (n : ℕ) (P : Problem) (x : Step) (deed : Deed) (P′ : Problem)
+    → Front g (P .waiting) → stepped r n P x ≡ taken deed P′ → Front g (P′ .waiting)
 unfolding decomposed
-front-step g limit d n s w x done s′ w′ fr e = go (t .by)
+front-step g r n P x deed P′ fr e = go (t .by)
   where
-    t : Took limit d n s w x done s′ w′
-    t = took x done s′ w′ e
+    t : Took r n P x deed P′
+    t = took x deed P′ e
 
-    at : At w (x .place) (goalAt w (x .place))
-    at = at-of-lt w (x .place) noGoal (t .inside)
+    at : At (P .waiting) (x .place) (goalAt (P .waiting) (x .place))
+    at = at-of-lt (P .waiting) (x .place) noGoal (t .inside)
 
-    go : {m : Move} {done : List ℕ} {s′ : State} {w′ : List Waiting} → Moved limit d n s w (x .place) m done s′ w′ → Front g w′
+    go : {m : Move} {deed : Deed} {P′ : Problem} → Moved r n P (x .place) m deed P′ → Front g (P′ .waiting)
     go (by-release h) =
-        front-released g w (x .place) (goalAt w (x .place)) at
-        (λ q m o. free-iff-none-listed w (goalAt w (x .place)) .0 (t .is-free) q m (by-method o)) fr
-    go (by-action h r) = fr
-    go (Steps.by-method h r k) = front-inserted g n (goalAt w (x .place)) _ w (x .place) at fr
+        front-released g (P .waiting) (x .place) (goalAt (P .waiting) (x .place)) at
+        (λ q m o. free-iff-none-listed (P .waiting) (goalAt (P .waiting) (x .place)) .0 (t .is-free) q m (by-method o)) fr
+    go (by-action h k) = fr
+    go (Steps.by-method h k l) = front-inserted g n (goalAt (P .waiting) (x .place)) _ (P .waiting) (x .place) at fr

@@ -13,9 +13,9 @@ use Rattle.hgn.specs.Meaning.{Node, Order}
 use Rattle.hgn.specs.Network.{order, Waiting, enter, goalsOf}
 use Rattle.hgn.specs.Join.{raised, join}
 use Rattle.hgn.specs.Definition1.{by-row}
-use Rattle.hgn.specs.Verdict.{passed}
+use Rattle.hgn.specs.Questions.{passed}
 use Rattle.hgn.specs.Shop.{checkShop}
-use Rattle.hgn.specs.Demands.{FromSheets, by-sheet, by-join, FirstBeforeSecond}
+use Rattle.hgn.specs.Readings.{FromSheets, by-sheet, by-join, FirstBeforeSecond}
 use Rattle.hgn.proofs.Tests.{below-lt, lt-below}
 use Rattle.hgn.proofs.Checked.{Numbered, order-numbered, shop-of-order}
 

@@ -9,10 +9,9 @@ use mathlib.Core.List.{List, [], _∷_, _++_, List·Memᴰ, List·Memᴰ·head, 
 use mathlib.Core.Option.{Option, none, some, Option·some-injective, Option·none-ne-some}
 use lib.ListN.{length}
 use Rattle.hgn.specs.Lists.{At, here, there}
-use Rattle.hgn.specs.Meaning.{Node, Domain, Order, networkOf}
-use Rattle.hgn.specs.State.{State}
+use Rattle.hgn.specs.Meaning.{Node, Order, networkOf}
 use Rattle.hgn.specs.Network.{Origin, order, step, Name, Waiting, enter, goalsOf, noGoal, released, decomposed}
-use Rattle.hgn.specs.Run.{Step, Move, methodAt, taken, stepped}
+use Rattle.hgn.specs.Run.{Step, Move, methodAt, Problem, Rules, Deed, taken, stepped}
 use Rattle.hgn.specs.Definition1.{Listed}
 use Rattle.hgn.proofs.Tests.{at-mem, at-of-lt}
 use Rattle.hgn.proofs.Steps.{Moved, took}
@@ -178,13 +177,14 @@ method-named {n} {w} {p} {t} nodes h k = record {
       by-parent = λ a e i s. let z = h .fresh t (at-mem k) .by-name i (ap (λ (x : Name). x .origin) (Option·some-injective _ _ (sym (r .its-parent) ∙ e)) ∙ s) in omega arith;
     }
 
-pub moved-named : {limit n p : ℕ} {d : Domain} {s s′ : State} {w w′ : List Waiting} {done : List ℕ} {m : Move}
-    → p < length w → Moved limit d n s w p m done s′ w′ → Named n w → Named (suc n) w′
+pub moved-named : {r : Rules} {n p : ℕ} {P P′ : Problem} {deed : Deed} {m : Move}
+    → p < length (P .waiting) → Moved r n P p m deed P′ → Named n (P .waiting) → Named (suc n) (P′ .waiting)
 unfolding decomposed
-moved-named {p = p} {w = w} i (Moved.by-release a) h = release-named h (at-of-lt w p noGoal i)
+moved-named {p = p} {P = P} i (Moved.by-release a) h = release-named h (at-of-lt (P .waiting) p noGoal i)
 moved-named i (Moved.by-action a b) h = record { fresh = λ q m. fresh-next (h .fresh q m); distinct = h .distinct }
-moved-named {p = p} {d = d} {w = w} i (Moved.by-method {m = m} a b c) h = method-named (networkOf (methodAt d m)) h (at-of-lt w p noGoal i)
+moved-named {r = r} {p = p} {P = P} i (Moved.by-method {m = m} a b c) h =
+    method-named (networkOf (methodAt (r .domain) m)) h (at-of-lt (P .waiting) p noGoal i)
 
-pub named-next : (limit : ℕ) (d : Domain) (n : ℕ) (s : State) (w : List Waiting) (x : Step) (done : List ℕ) (s′ : State) (w′ : List Waiting)
-    → Named n w → stepped limit d n s w x ≡ taken done s′ w′ → Named (suc n) w′
-named-next limit d n s w x done s′ w′ h e = let t = took x done s′ w′ e in moved-named (t .inside) (t .by) h
+pub named-next : (r : Rules) (n : ℕ) (P : Problem) (x : Step) (deed : Deed) (P′ : Problem)
+    → Named n (P .waiting) → stepped r n P x ≡ taken deed P′ → Named (suc n) (P′ .waiting)
+named-next r n P x deed P′ h e = let t = took x deed P′ e in moved-named (t .inside) (t .by) h

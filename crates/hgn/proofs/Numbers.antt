@@ -1,128 +1,103 @@
--- No question of the sheets has the number 0, so a check that answers 0 has passed; nor has one 43, so a search that answers 43 found no trace.
--- Assumes nothing.
+-- What holds of the numbers 1 to 42 holds of the number of every question of the sheets, of a replay and of a search's inputs: so none of
+-- them is 0, and none is 43. Assumes nothing.
 use Prim.Native.Nat.{ℕ, suc, _+_, _<_}
 use native.Mathlib.Omega.{arith}
-use mathlib.Core.Path.{_≡_, refl}
-use mathlib.Core.Bool.{Bool, true, false}
 use mathlib.Core.Logic.{_≢_}
-use mathlib.Core.List.{List, [], _∷_}
-use Rattle.hgn.specs.Rows.{Row}
+use mathlib.Core.List.{List, [], _∷_, _++_}
+use Rattle.hgn.specs.Questions.{allAt}
+use Rattle.hgn.specs.Rows.{Row, rowQuestions}
 use Rattle.hgn.specs.Tag.{Context, Position, advance}
 use Rattle.hgn.specs.Meaning.{Method}
-use Rattle.hgn.specs.Verdict.{Verdict, passed, refused, ask, andThen, numberOf, rowQuestions}
-use Rattle.hgn.specs.Shop.{methodQuestions, checkShop}
-use Rattle.hgn.specs.Order.{orderQuestions, checkOrder}
-use Rattle.hgn.specs.Trace.{traceQuestions, checkTrace}
-use Rattle.hgn.specs.Replay.{checkReplay}
-use Rattle.hgn.specs.Search.{checkSearch}
+use Rattle.hgn.specs.Run.{Step, Move, release, act, use-method, unknown, moveOf, Problem, Rules, moved, ownQuestions, stepQuestions, endQuestions, runQuestions}
+use Rattle.hgn.specs.Shop.{methodQuestions, shopQuestions}
+use Rattle.hgn.specs.Order.{orderQuestions}
+use Rattle.hgn.specs.Trace.{traceQuestions}
+use Rattle.hgn.specs.Replay.{inputQuestions, replayQuestions}
+use Rattle.hgn.proofs.Firsts.{Numbers, numbers-append, numbers-at}
 
--- The number of a check that refuses has a property that the numbers 1 to 42 have.
-module _ (P : ℕ → Type 0) where
-  abbrev pub Within : Verdict → Type 0
-  Within passed = Unit {0}
-  Within (refused number place) = P number
-
-  asks : (b : Bool) (number place : ℕ) (rest : Verdict) → P number → Within rest → Within (ask b number place rest)
-  unfolding ask
-  asks true number place rest p h = h
-  asks false number place rest p h = p
-
-  asks-both : (v rest : Verdict) → Within v → Within rest → Within (andThen v rest)
-  unfolding andThen
-  asks-both passed rest p h = h
-  asks-both (refused number place) rest p h = p
-
-  rows-within : (follow : Context → List ℕ) (q F i : ℕ) (p : Position) (rows : List Row) → P q → P (q + 1) → P (q + 2)
-      → Within (rowQuestions follow q F i p rows)
+module _ (H : ℕ → Type 0) (given : (k : ℕ) → k < 42 → H (suc k)) where
+  rows-numbers : (follow : Context → List ℕ) (q F i : ℕ) (p : Position) (rows : List Row) → H q → H (q + 1) → H (q + 2)
+      → Numbers H (rowQuestions follow q F i p rows)
   unfolding rowQuestions
-  rows-within follow q F i p [] h₀ h₁ h₂ = tt
-  rows-within follow q F i p (r ∷ rs) h₀ h₁ h₂ =
-      asks _ q i _ h₀
-      (asks _ (q + 1) i _ h₁
-      (asks _ (q + 2) i _ h₂
-      (rows-within follow q F (suc i) (advance p (r .tag) (r .value)) rs h₀ h₁ h₂)))
+  rows-numbers follow q F i p [] h₀ h₁ h₂ = tt
+  rows-numbers follow q F i p (r ∷ rs) h₀ h₁ h₂ = (h₀, (h₁, (h₂, rows-numbers follow q F (suc i) (advance p (r .tag) (r .value)) rs h₀ h₁ h₂)))
 
-  module _ (given : (k : ℕ) → k < 42 → P (suc k)) where
-    asks-suc : (b : Bool) (k place : ℕ) (rest : Verdict) → k < 42 → Within rest → Within (ask b (suc k) place rest)
-    asks-suc b k place rest l h = asks b (suc k) place rest (given k l) h
+  methods-numbers : (i : ℕ) (ms : List Method) → Numbers H (methodQuestions i ms)
+  unfolding methodQuestions
+  methods-numbers i [] = tt
+  methods-numbers i (m ∷ ms) = (given 8 (omega arith), methods-numbers (suc i) ms)
 
-    methods-within : (i : ℕ) (ms : List Method) → Within (methodQuestions i ms)
-    unfolding methodQuestions
-    methods-within i [] = tt
-    methods-within i (m ∷ ms) = asks-suc _ 8 i _ (omega arith) (methods-within (suc i) ms)
+  pub shop-numbers : (shop : List ℕ) → Numbers H (shopQuestions shop)
+  unfolding shopQuestions
+  shop-numbers shop = (
+    given 0 (omega arith),
+    (
+      given 1 (omega arith),
+      (
+        given 2 (omega arith),
+        numbers-append H (rowQuestions _ _ _ _ _ _) _
+            (rows-numbers _ 4 _ _ _ _ (given 3 (omega arith)) (given 4 (omega arith)) (given 5 (omega arith)))
+            (given 6 (omega arith), (given 7 (omega arith), methods-numbers 0 _)),
+      ),
+    ),
+  )
 
-    shop-within : (shop : List ℕ) → Within (checkShop shop)
-    unfolding checkShop
-    shop-within shop =
-        asks-suc _ 0 0 _ (omega arith)
-        (asks-suc _ 1 0 _ (omega arith)
-        (asks-suc _ 2 0 _ (omega arith)
-        (asks-both _ _ (rows-within _ 4 _ _ _ _ (given 3 (omega arith)) (given 4 (omega arith)) (given 5 (omega arith)))
-        (asks-suc _ 6 0 _ (omega arith)
-        (asks-suc _ 7 0 _ (omega arith)
-        (methods-within 0 _))))))
+  pub order-numbers : (shop sheet : List ℕ) → Numbers H (orderQuestions shop sheet)
+  unfolding orderQuestions
+  order-numbers shop sheet = (
+    given 10 (omega arith),
+    (
+      given 11 (omega arith),
+      (
+        given 12 (omega arith),
+        numbers-append H (rowQuestions _ _ _ _ _ _) _
+            (rows-numbers _ 14 _ _ _ _ (given 13 (omega arith)) (given 14 (omega arith)) (given 15 (omega arith)))
+            (given 16 (omega arith), (given 17 (omega arith), tt)),
+      ),
+    ),
+  )
 
-    order-within : (shop sheet : List ℕ) → Within (checkOrder shop sheet)
-    unfolding checkOrder orderQuestions
-    order-within shop sheet =
-        asks-both _ _ (shop-within shop)
-        (asks-suc _ 10 0 _ (omega arith)
-        (asks-suc _ 11 0 _ (omega arith)
-        (asks-suc _ 12 0 _ (omega arith)
-        (asks-both _ _ (rows-within _ 14 _ _ _ _ (given 13 (omega arith)) (given 14 (omega arith)) (given 15 (omega arith)))
-        (asks-suc _ 16 0 _ (omega arith)
-        (asks-suc _ 17 0 _ (omega arith) tt))))))
+  pub trace-numbers : (trace : List ℕ) → Numbers H (traceQuestions trace)
+  unfolding traceQuestions
+  trace-numbers trace = (given 20 (omega arith), (given 21 (omega arith), (given 22 (omega arith), tt)))
 
-    trace-within : (shop sheet trace : List ℕ) → Within (checkTrace shop sheet trace)
-    unfolding checkTrace traceQuestions
-    trace-within shop sheet trace =
-        asks-both _ _ (order-within shop sheet)
-        (asks-suc _ 20 0 _ (omega arith)
-        (asks-suc _ 21 0 _ (omega arith)
-        (asks-suc _ 22 0 _ (omega arith) tt)))
+  -- Of all sheets that a check asks about.
+  pub of-order : (shop sheet : List ℕ) → Numbers H (shopQuestions shop ++ orderQuestions shop sheet)
+  of-order shop sheet = numbers-append H (shopQuestions shop) _ (shop-numbers shop) (order-numbers shop sheet)
 
-    replay-within : (shop sheet trace room : List ℕ) → Within (checkReplay shop sheet trace room)
-    unfolding checkReplay
-    replay-within shop sheet trace room = asks-both _ _ (trace-within shop sheet trace) (asks-suc _ 23 0 _ (omega arith) tt)
+  pub of-trace : (shop sheet trace : List ℕ) → Numbers H (shopQuestions shop ++ orderQuestions shop sheet ++ traceQuestions trace)
+  of-trace shop sheet trace = numbers-append H (shopQuestions shop ++ orderQuestions shop sheet) _ (of-order shop sheet) (trace-numbers trace)
 
-    search-within : (shop sheet : List ℕ) (depth : ℕ) (room : List ℕ) → Within (checkSearch shop sheet depth room)
-    unfolding checkSearch
-    search-within shop sheet depth room =
-        asks-both _ _ (order-within shop sheet) (asks-suc _ 40 0 _ (omega arith) (asks-suc _ 41 0 _ (omega arith) tt))
+  own-numbers : (r : Rules) (n : ℕ) (P : Problem) (p : ℕ) (m : Move) → Numbers H (ownQuestions r n P p m)
+  unfolding ownQuestions
+  own-numbers r n P p release = (given 28 (omega arith), tt)
+  own-numbers r n P p (act k) = (given 29 (omega arith), (given 30 (omega arith), tt))
+  own-numbers r n P p (use-method m) = (given 29 (omega arith), (given 30 (omega arith), (given 31 (omega arith), tt)))
+  own-numbers r n P p unknown = tt
 
--- It is not 0.
-abbrev pub Numbered : Verdict → Type 0
-Numbered v = Within (λ k. k ≢ 0) v
+  pub step-numbers : (r : Rules) (n : ℕ) (P : Problem) (x : Step) → Numbers H (stepQuestions r n P x)
+  unfolding stepQuestions
+  step-numbers r n P x = (
+    given 24 (omega arith),
+    (given 25 (omega arith), (given 26 (omega arith), (given 27 (omega arith), own-numbers r n P (x .place) (moveOf (r .domain) (x .move))))),
+  )
 
-pub rows-numbered : (follow : Context → List ℕ) (q F i : ℕ) (p : Position) (rows : List Row) → q ≢ 0 → Numbered (rowQuestions follow q F i p rows)
-rows-numbered follow q F i p rows h = rows-within (λ k. k ≢ 0) follow q F i p rows h (omega arith) (omega arith)
+  pub run-numbers : (r : Rules) (n : ℕ) (P : Problem) (xs : List Step) → Numbers H (runQuestions r n P xs)
+  unfolding runQuestions endQuestions allAt
+  run-numbers r n P [] = (given 32 (omega arith), tt)
+  run-numbers r n P (x ∷ xs) =
+      numbers-append H (allAt n (stepQuestions r n P x)) _ (numbers-at H n (stepQuestions r n P x) (step-numbers r n P x)) (run-numbers r (suc n) _ xs)
 
-pub shop-numbered : (shop : List ℕ) → Numbered (checkShop shop)
-shop-numbered = shop-within (λ k. k ≢ 0) (λ k l. omega arith)
+  pub input-numbers : (shop sheet trace room : List ℕ) → Numbers H (inputQuestions shop sheet trace room)
+  unfolding inputQuestions
+  input-numbers shop sheet trace room =
+      numbers-append H (shopQuestions shop ++ orderQuestions shop sheet ++ traceQuestions trace) _ (of-trace shop sheet trace) (given 23 (omega arith), tt)
 
-pub order-numbered : (shop sheet : List ℕ) → Numbered (checkOrder shop sheet)
-order-numbered = order-within (λ k. k ≢ 0) (λ k l. omega arith)
+  pub replay-numbers : (shop sheet trace room : List ℕ) → Numbers H (replayQuestions shop sheet trace room)
+  unfolding replayQuestions
+  replay-numbers shop sheet trace room =
+      numbers-append H (inputQuestions shop sheet trace room) _ (input-numbers shop sheet trace room) (run-numbers _ 0 _ _)
 
-pub trace-numbered : (shop sheet trace : List ℕ) → Numbered (checkTrace shop sheet trace)
-trace-numbered = trace-within (λ k. k ≢ 0) (λ k l. omega arith)
-
-pub replay-numbered : (shop sheet trace room : List ℕ) → Numbered (checkReplay shop sheet trace room)
-replay-numbered = replay-within (λ k. k ≢ 0) (λ k l. omega arith)
-
-pub search-numbered : (shop sheet : List ℕ) (depth : ℕ) (room : List ℕ) → Numbered (checkSearch shop sheet depth room)
-search-numbered = search-within (λ k. k ≢ 0) (λ k l. omega arith)
-
--- Nor is it 43, which a search answers after its checks.
-pub search-before-43 : (shop sheet : List ℕ) (depth : ℕ) (room : List ℕ) → Within (λ k. k ≢ 43) (checkSearch shop sheet depth room)
-search-before-43 = search-within (λ k. k ≢ 43) (λ k l. omega arith)
-
--- What follows a check is asked exactly where the check answers 0.
-pub then-on : (v rest : Verdict) → Numbered v → numberOf v ≡ 0 → andThen v rest ≡ rest
-unfolding andThen
-then-on passed rest h e = refl
-then-on (refused number place) rest h e = absurd (h e)
-
-pub then-stop : (v rest : Verdict) → numberOf v ≢ 0 → andThen v rest ≡ v
-unfolding andThen
-then-stop passed rest e = absurd (e refl)
-then-stop (refused number place) rest e = refl
+-- No number is 0.
+pub not-zero : (k : ℕ) → k < 42 → suc k ≢ 0
+not-zero k l = omega arith

@@ -2,19 +2,19 @@
 -- are those of `Names`. Assumes nothing.
 use Prim.Native.Nat.{ℕ, suc, _<_}
 use native.Mathlib.Omega.{arith}
-use mathlib.Core.Path.{_≡_, refl, sym, _∙_}
+use mathlib.Core.Path.{_≡_, refl, sym, _∙_, subst}
 use mathlib.Core.Logic.{⊎-elim, _≢_}
 use mathlib.Core.List.{List, [], _∷_, _++_, List·Memᴰ, List·Memᴰ·head, List·Memᴰ·tail, List·Memᴰ·append-cases}
 use mathlib.Core.Option.{Option, some, Option·none-ne-some}
-use lib.ListN.{length}
+use lib.ListN.{length, length-append}
 use Rattle.hgn.specs.Lists.{At, here, there}
 use Rattle.hgn.specs.Meaning.{Node, Method, Domain, Order, networkOf}
 use Rattle.hgn.specs.State.{State}
 use Rattle.hgn.specs.Network.{Origin, Name, Waiting, enter, goalsOf, noGoal, released, decomposed}
-use Rattle.hgn.specs.Run.{Move, moveOf, methodAt}
+use Rattle.hgn.specs.Run.{Step, Move, moveOf, methodAt, Problem, problemFrom, Rules, Deed}
 use Rattle.hgn.specs.Shop.{domain}
 use Rattle.hgn.specs.Definition1.{Listed}
-use Rattle.hgn.specs.Demands.{FromSheets, Reached, first, next}
+use Rattle.hgn.specs.Readings.{FromSheets, Reached, first, next}
 use Rattle.hgn.proofs.Tests.{at-mem, at-of-lt}
 use Rattle.hgn.proofs.Steps.{Moved, took}
 use Rattle.hgn.proofs.Names.{Named, Distinct, entered, Stranger, strangers, parent-outside, named-goals, moved-named}
@@ -78,26 +78,34 @@ inserted-ordered {new = new} {p = suc p} {t = t} (there {y = y} {xs = v} k) u f 
     after-none e m =
         ⊎-elim (f .0 e) (λ j l. u .0 t (at-mem k) (sym (h y e (List·Memᴰ·head refl) j .before-parent l))) (inserted-cases new (there k) m)
 
-module _ {d : Domain} (numbered : (m : Method) → List·Memᴰ m (d .methods) → Numbered 0 (networkOf m)) where
-  moved-ordered : {limit n p : ℕ} {s s′ : State} {w w′ : List Waiting} {done : List ℕ} {mv : Move} (k : ℕ) → moveOf d k ≡ mv
-      → p < length w → Moved limit d n s w p mv done s′ w′ → Sound n w → Ordered w′
-  unfolding decomposed
-  moved-ordered {p = p} {w = w} k e i (Moved.by-release a) h = released-ordered (at-of-lt w p noGoal i) (h .ordered)
-  moved-ordered k e i (Moved.by-action a b) h = h .ordered
-  moved-ordered {p = p} {w = w} k e i (Moved.by-method {m = m} a b c) h =
-      let t = at-of-lt w p noGoal i in
-      inserted-ordered t (h .named .distinct) (h .ordered)
-      (entered-ordered 0 (networkOf (methodAt d m)) (numbered _ (at-mem (at-of-lt (d .methods) m _ (method-known d k m e)))) (parent-outside (h .named) (at-mem t)))
-      (strangers (networkOf (methodAt d m)) (h .named))
+-- The number of the step after these.
+pub one-more : (xs : List Step) (x : Step) → suc (length xs) ≡ length (xs ++ (x ∷ []))
+one-more xs x = omega (arith, length-append xs (x ∷ []))
 
-  reached-sound : {limit n : ℕ} {s₀ s : State} {o : Order} {w : List Waiting} → Numbered 0 (o .goals) → Reached limit d s₀ o n s w → Sound n w
-  reached-sound {o = o} g first = start-sound o g
-  reached-sound g (next x r e) =
-      let t = took x _ _ _ e in
-      let h = reached-sound g r in
-      record { named = moved-named (t .inside) (t .by) (h .named); ordered = moved-ordered (x .move) refl (t .inside) (t .by) h }
+module _ {r : Rules} (numbered : (m : Method) → List·Memᴰ m (r .domain .methods) → Numbered 0 (networkOf m)) where
+  moved-ordered : {n p : ℕ} {P P′ : Problem} {deed : Deed} {mv : Move} (k : ℕ) → moveOf (r .domain) k ≡ mv
+      → p < length (P .waiting) → Moved r n P p mv deed P′ → Sound n (P .waiting) → Ordered (P′ .waiting)
+  unfolding decomposed
+  moved-ordered {p = p} {P = P} k e i (Moved.by-release a) h = released-ordered (at-of-lt (P .waiting) p noGoal i) (h .ordered)
+  moved-ordered k e i (Moved.by-action a b) h = h .ordered
+  moved-ordered {p = p} {P = P} k e i (Moved.by-method {m = m} a b c) h =
+      let t = at-of-lt (P .waiting) p noGoal i in
+      inserted-ordered t (h .named .distinct) (h .ordered)
+      (entered-ordered 0 (networkOf (methodAt (r .domain) m)) (numbered _ (at-mem (at-of-lt (r .domain .methods) m _ (method-known (r .domain) k m e)))) (parent-outside (h .named) (at-mem t)))
+      (strangers (networkOf (methodAt (r .domain) m)) (h .named))
+
+  reached-sound : (o : Order) {s₀ : State} {xs : List Step} {P : Problem} → Numbered 0 (o .goals) → Reached r (problemFrom s₀ o) xs P
+      → Sound (length xs) (P .waiting)
+  reached-sound o g first = start-sound o g
+  reached-sound o g (next {xs = xs} {P′ = P′} x i e) =
+      let t = took x _ _ e in
+      let h = reached-sound o g i in
+      subst (λ (n : ℕ). Sound n (P′ .waiting)) (one-more xs x)
+      (record { named = moved-named (t .inside) (t .by) (h .named); ordered = moved-ordered (x .move) refl (t .inside) (t .by) h })
 
 -- Every network reached from checked sheets and their joins is sound.
-pub sound : {shop : List ℕ} {o : Order} → FromSheets shop o → {limit n : ℕ} {s₀ s : State} {w : List Waiting}
-    → Reached limit (domain shop) s₀ o n s w → Sound n w
-sound {shop} f = let c = from-sheets f in reached-sound (method-numbered shop (c .0)) (c .1)
+pub sound : {shop : List ℕ} {o : Order} → FromSheets shop o → {r : Rules} → r .domain ≡ domain shop → {s₀ : State} {xs : List Step} {P : Problem}
+    → Reached r (problemFrom s₀ o) xs P → Sound (length xs) (P .waiting)
+sound {shop} {o} f {r} d =
+    let c = from-sheets f in
+    reached-sound (λ m k. method-numbered shop (c .0) m (subst (λ (d : Domain). List·Memᴰ m (d .methods)) d k)) o (c .1)

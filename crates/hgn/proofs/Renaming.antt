@@ -8,19 +8,22 @@ use mathlib.Core.Path.{_≡_, refl, sym, ap, ap₂, _∙_}
 use mathlib.Core.Bool.{Bool, true, false, _&&_, _||_}
 use mathlib.Core.List.{List, [], _∷_, _++_, map, append-nil, List·Memᴰ, List·Memᴰ·head, List·Memᴰ·tail}
 use mathlib.Core.Option.{Option, none, some, Option·map}
-use lib.Dec.{eqb, ltb}
+use lib.Dec.{eqb, ltb, eqb·suc-zero}
 use lib.ListN.{length, length-map}
 use borrow.Author.Tests.{eqb-true, eqb-false, eq-eqb, ne-eqb, ltb-true}
 use Rattle.hgn.specs.Lists.{among, below}
-use Rattle.hgn.specs.Meaning.{Domain, Node}
+use Rattle.hgn.specs.Questions.{_asks_, placed, allAt, firstNo}
+use Rattle.hgn.specs.Questions as Questions
+use Rattle.hgn.specs.Meaning.{Node}
 use Rattle.hgn.specs.State.{State}
 use Rattle.hgn.specs.Network.{Origin, order, step, Name, Waiting, sameOrigin, sameName, isParent, comesAfter, enter}
-use Rattle.hgn.specs.Run.{Step, Stepped, refused, taken, ask, stepped, Outcome, stopped, accepted, prepend, ended, run}
+use Rattle.hgn.specs.Run.{Step, Problem, Rules, limited, stepQuestions, Deed, releases, takes, uses, planOf, Stepped, refused, taken, stepped, Outcome, stopped, accepted, prepend, endQuestions, ended, runBy, run}
 use Rattle.hgn.specs.Join.{raised}
 use Rattle.hgn.proofs.Tests.{any-append, below-lt}
 use Rattle.hgn.proofs.Names.{Before, Fresh}
-use Rattle.hgn.proofs.Embedding.{Embeds, carried, step-carried, any-map, any-cong, any-none}
-use Rattle.hgn.proofs.Runs.{resumed, run-cons, stopped≢accepted}
+use Rattle.hgn.proofs.Steps.{step-refused}
+use Rattle.hgn.proofs.Embedding.{Embeds, renamedDeed, carried, step-carried, any-map, any-cong, any-none}
+use Rattle.hgn.proofs.Runs.{resumed, run-cons, ended-nothing, ended-waiting, stopped≢accepted, accepted-deeds, accepted-state}
 
 -- Different numbers with different names.
 abbrev pub Injective : (ℕ → ℕ) → Type 0
@@ -48,20 +51,36 @@ among-raised g i ns =
 same-head : {x : Waiting} {l m : List Waiting} → l ≡ m → x ∷ l ≡ x ∷ m
 same-head {x} e = ap {B = List Waiting} (λ l. x ∷ l) e
 
--- A refusal at a step under its other name.
-unfoldable pub later : (ℕ → ℕ) → Outcome → Outcome
-later σ (stopped number place) = stopped number (σ place)
-later σ (accepted plan s) = accepted plan s
+-- A run under other names: a refusal at a step under its other name, and what the steps did renamed.
+unfoldable pub later : (Waiting → Waiting) → (ℕ → ℕ) → Outcome → Outcome
+later f σ (stopped q) = stopped (placed (σ (q .place)) q)
+later f σ (accepted deeds s) = accepted (map (renamedDeed f) deeds) s
 
-pub later-accepted : (σ : ℕ → ℕ) (o : Outcome) (plan : List ℕ) (s : State) → later σ o ≡ accepted plan s → o ≡ accepted plan s
+pub later-accepted : (f : Waiting → Waiting) (σ : ℕ → ℕ) (o : Outcome) (deeds : List Deed) (s : State) → later f σ o ≡ accepted deeds s
+    → (own : List Deed) × (o ≡ accepted own s) × (deeds ≡ map (renamedDeed f) own)
 unfolding later
-later-accepted σ (stopped number place) plan s e = absurd (stopped≢accepted e)
-later-accepted σ (accepted plan′ s′) plan s e = e
+later-accepted f σ (stopped q) deeds s e = absurd (stopped≢accepted e)
+later-accepted f σ (accepted own s′) deeds s e = (own, ap (accepted own) (accepted-state e), sym (accepted-deeds e))
 
-prepend-later : (σ : ℕ → ℕ) (done : List ℕ) (o : Outcome) → prepend done (later σ o) ≡ later σ (prepend done o)
+prepend-later : (f : Waiting → Waiting) (σ : ℕ → ℕ) (deed : Deed) (o : Outcome)
+    → prepend (renamedDeed f deed) (later f σ o) ≡ later f σ (prepend deed o)
 unfolding prepend later
-prepend-later σ done (stopped number place) = refl
-prepend-later σ done (accepted plan s) = refl
+prepend-later f σ deed (stopped q) = refl
+prepend-later f σ deed (accepted deeds s) = refl
+
+-- The plan stays.
+pub plan-renamed : (f : Waiting → Waiting) (deeds : List Deed) → planOf (map (renamedDeed f) deeds) ≡ planOf deeds
+unfolding planOf renamedDeed
+plan-renamed f [] = refl
+plan-renamed f (releases gs ∷ ds) = plan-renamed f ds
+plan-renamed f (takes k ∷ ds) = ap {B = List ℕ} (λ l. k ∷ l) (plan-renamed f ds)
+plan-renamed f (uses m g ∷ ds) = plan-renamed f ds
+
+-- A place past the list is refused by the first question.
+outside : (r : Rules) (n : ℕ) (P : Problem) (x : Step) → ltb (x .place) (length (P .waiting)) ≡ false
+    → firstNo (stepQuestions r n P x) ≡ Questions.refused ((25 asks false) .refusal)
+unfolding stepQuestions firstNo
+outside r n P x e = rw e
 
 module _ (g : ℕ) (σ : ℕ → ℕ) where
   abbrev renamed : Origin → ℕ → Name
@@ -140,40 +159,49 @@ module _ (g : ℕ) (σ : ℕ → ℕ) where
       blocked = λ p k. elim k [ ];
     }
 
-    ended-renamed : (n : ℕ) (s : State) (w : List Waiting) → ended (σ n) s (map rename w) ≡ later σ (ended n s w)
-    unfolding ended later
-    ended-renamed n s [] = refl
-    ended-renamed n s (q ∷ w) = refl
+    -- The same problem under the other names.
+    abbrev inNames : Problem → Problem
+    inNames P = record { state = P .state; waiting = map rename (P .waiting) }
 
-    step-renamed : (limit : ℕ) (d : Domain) (n : ℕ) (s : State) (w : List Waiting) (x : Step)
-        → stepped limit d (σ n) s (map rename w) x ≡ carried rename [] (stepped limit d n s w x)
-    unfolding stepped ask carried
-    step-renamed limit d n s w x = go (ltb (x .place) (length w)) refl
+    ended-renamed : (n : ℕ) (P : Problem) → ended (σ n) (inNames P) ≡ later rename σ (ended n P)
+    unfolding ended endQuestions firstNo allAt later
+    ended-renamed n P = go (P .waiting)
       where
-        go : (b : Bool) → ltb (x .place) (length w) ≡ b → stepped limit d (σ n) s (map rename w) x ≡ carried rename [] (stepped limit d n s w x)
+        go : (w : List Waiting) → ended (σ n) (record { state = P .state; waiting = map rename w }) ≡ later rename σ (ended n (record { state = P .state; waiting = w }))
+        go [] = refl
+        go (q ∷ w) = rw (eqb·suc-zero (length w), eqb·suc-zero (length (map rename w)), ended)
+
+    step-renamed : (r : Rules) (n : ℕ) (P : Problem) (x : Step)
+        → stepped r (σ n) (inNames P) x ≡ carried rename [] (stepped r n P x)
+    unfolding carried
+    step-renamed r n P x = go (ltb (x .place) (length (P .waiting))) refl
+      where
+        go : (b : Bool) → ltb (x .place) (length (P .waiting)) ≡ b → stepped r (σ n) (inNames P) x ≡ carried rename [] (stepped r n P x)
         go true e =
-            ap₂ (λ (m : ℕ) (l : List Waiting). stepped m d (σ n) s l x) (sym (add-zero limit)) (sym (append-nil (map rename w)))
-            ∙ step-carried rename w [] n (σ n) (rename-embeds w n) limit d s x (ltb-true _ _ e)
-        go false e = rw (length-map, e)
+            ap₂ (λ (k : ℕ) (l : List Waiting). stepped (limited k r) (σ n) (record { state = P .state; waiting = l }) x) (sym (add-zero (r .limit))) (sym (append-nil (map rename (P .waiting))))
+            ∙ step-carried rename [] n (σ n) P (rename-embeds (P .waiting) n) r x (ltb-true _ _ e)
+        go false e =
+            step-refused r (σ n) (inNames P) x _ (outside r (σ n) (inNames P) x (ap (ltb (x .place)) (length-map (P .waiting) rename) ∙ e))
+            ∙ sym (ap (carried rename []) (step-refused r n P x _ (outside r n P x e)))
 
     -- From step `n` on, the steps' names follow on each other.
-    pub run-renamed : (limit : ℕ) (d : Domain) (xs : List Step) (n : ℕ) → ((k : ℕ) → n ≤ k → σ (suc k) ≡ suc (σ k)) → (s : State) (w : List Waiting)
-        → run limit d (σ n) s (map rename w) xs ≡ later σ (run limit d n s w xs)
-    unfolding run carried later resumed
-    run-renamed limit d [] n follows s w = ended-renamed n s w
-    run-renamed limit d (x ∷ xs) n follows s w =
-        run-cons limit d (σ n) s (map rename w) x xs
-        ∙ ap (resumed limit d (σ n) xs) (step-renamed limit d n s w x)
-        ∙ resumed-renamed (λ s′ w′. run-renamed limit d xs (suc n) (λ k h. follows k (omega arith)) s′ w′) (stepped limit d n s w x)
-        ∙ ap (later σ) (sym (run-cons limit d n s w x xs))
+    pub run-renamed : (r : Rules) (xs : List Step) (n : ℕ) → ((k : ℕ) → n ≤ k → σ (suc k) ≡ suc (σ k)) → (P : Problem)
+        → run r (σ n) (inNames P) xs ≡ later rename σ (run r n P xs)
+    unfolding runBy carried later resumed
+    run-renamed r [] n follows P = ended-renamed n P
+    run-renamed r (x ∷ xs) n follows P =
+        run-cons (stepped r) (σ n) (inNames P) x xs
+        ∙ ap (resumed (stepped r) (σ n) xs) (step-renamed r n P x)
+        ∙ resumed-renamed (λ P′. run-renamed r xs (suc n) (λ k h. follows k (omega arith)) P′) (stepped r n P x)
+        ∙ ap (later rename σ) (sym (run-cons (stepped r) n P x xs))
       where
-        resumed-renamed : ((s′ : State) (w′ : List Waiting) → run limit d (σ (suc n)) s′ (map rename w′) xs ≡ later σ (run limit d (suc n) s′ w′ xs))
-            → (r : Stepped) → resumed limit d (σ n) xs (carried rename [] r) ≡ later σ (resumed limit d n xs r)
-        resumed-renamed ih (refused number) = refl
-        resumed-renamed ih (taken done s′ w′) =
-            ap (prepend done)
-            (ap₂ (λ (k : ℕ) (l : List Waiting). run limit d k s′ l xs) (sym (follows n (omega arith))) (append-nil (map rename w′)) ∙ ih s′ w′)
-            ∙ prepend-later σ done (run limit d (suc n) s′ w′ xs)
+        resumed-renamed : ((P′ : Problem) → run r (σ (suc n)) (inNames P′) xs ≡ later rename σ (run r (suc n) P′ xs))
+            → (o : Stepped) → resumed (stepped r) (σ n) xs (carried rename [] o) ≡ later rename σ (resumed (stepped r) n xs o)
+        resumed-renamed ih (refused q) = refl
+        resumed-renamed ih (taken deed P′) =
+            ap (prepend (renamedDeed rename deed))
+            (ap₂ (λ (k : ℕ) (l : List Waiting). run r k (record { state = P′ .state; waiting = l }) xs) (sym (follows n (omega arith))) (append-nil (map rename (P′ .waiting))) ∙ ih P′)
+            ∙ prepend-later rename σ deed (run r (suc n) P′ xs)
 
 -- With nothing raised, goals whose steps keep their names keep theirs.
 module _ (σ : ℕ → ℕ) (n : ℕ) (keeps : (k : ℕ) → k < n → σ k ≡ k) where

@@ -1,46 +1,61 @@
--- Demand 2 of the search: it gives the first of the shortest accepted traces, or 43 if none has at most D steps. Assumes nothing.
-use Prim.Native.Nat.{ℕ, _≤_}
+-- Demand 2 of the search: it gives the first of the shortest accepted traces, or 43 if none has at most D steps; and what it finds is what
+-- the replay accepts. Assumes nothing.
+use Prim.Native.Nat.{ℕ, _+_, _*_, _≤_}
 use native.Mathlib.Omega.{arith}
-use mathlib.Core.Path.{_≡_, refl, sym, ap, _∙_}
+use mathlib.Core.Path.{_≡_, refl, sym, ap, _∙_, subst}
+use mathlib.Core.Bool.{Bool, true, false}
 use mathlib.Core.Logic.{_≢_}
-use mathlib.Core.List.{List}
+use mathlib.Core.List.{List, [], _∷_, _++_}
 use mathlib.Core.Option.{Option, none, some}
-use lib.ListN.{length}
+use lib.Dec.{leb}
+use lib.ListN.{length, take}
 use borrow.Author.Tests.{leb-true, le-leb}
+use Rattle.hgn.specs.Questions.{Refusal, _asks_, Verdict, passed, refused, firstNo}
 use Rattle.hgn.specs.Network.{goalsOf, mostWaiting}
-use Rattle.hgn.specs.Run.{Step, startOf}
-use Rattle.hgn.specs.Verdict.{Verdict, passed, refused, ask, andThen}
-use Rattle.hgn.specs.Shop.{domain}
-use Rattle.hgn.specs.Order.{order, checkOrder}
-use Rattle.hgn.specs.Search.{searched, Searched, noTrace, written, checkSearch, search}
-use Rattle.hgn.specs.Demands.{Solves, FirstOfShortest, SearchPasses, Finds, Demand2OfSearch}
-use Rattle.hgn.proofs.Numbers.{Within, Numbered, search-numbered, search-before-43}
-use Rattle.hgn.proofs.Checked.{ask-passed, andThen-passed, order-goals, shop-of-order, shop-actions}
+use Rattle.hgn.specs.Run.{Step, problemOf}
+use Rattle.hgn.specs.Shop.{domain, shopQuestions}
+use Rattle.hgn.specs.Order.{order, orderQuestions, checkOrder}
+use Rattle.hgn.specs.Trace.{sizeWords, stepCount, stepsOf, checkTrace}
+use Rattle.hgn.specs.Replay.{rulesOf, Replayed, replay}
+use Rattle.hgn.specs.Search.{mostDepth, isFound, stepsFound, searched, Searched, noTrace, written, searchQuestions, search}
+use Rattle.hgn.specs.Demands.{Solves, FirstOfShortest, SearchPasses, Finds, Demand2OfSearch, SearchAgreesWithReplay}
+use Rattle.hgn.proofs.Tests.{strict-decided}
+use Rattle.hgn.proofs.Firsts.{refused≢passed, passed-cons, append-passed, append-refused, passed-append, Numbers, numbers-append, refused-number, Tells, tells-refusal, tells-passed}
+use Rattle.hgn.proofs.Numbers.{of-order, not-zero}
+use Rattle.hgn.proofs.Checked.{order-goals, shop-of-order, shop-actions}
 use Rattle.hgn.proofs.Waiting.{length-enter}
 use Rattle.hgn.proofs.Derivations.{derivation-runs, run-derives}
 use Rattle.hgn.proofs.Best.{Runs, Best, none-earlier}
 use Rattle.hgn.proofs.Shortest.{shortest-none, shortest-best, best-found}
 use Rattle.hgn.proofs.FoundTraces.{finds}
+use Rattle.hgn.proofs.Passed.{trace-passed}
+use Rattle.hgn.proofs.Traces.{steps-length}
+use Rattle.hgn.proofs.Replayed.{steps-short, demand-2}
 
 module _ (shop sheet : List ℕ) where
   -- Accepted steps of the sheets, by the run.
   abbrev Accepted : List Step → Type 0
-  Accepted = Runs (domain shop) 0 (startOf (order sheet)) (goalsOf (order sheet))
+  Accepted = Runs (rulesOf shop) 0 (problemOf (order sheet))
 
   abbrev First : List Step → Type 0
-  First = Best (domain shop) 0 (startOf (order sheet)) (goalsOf (order sheet))
+  First = Best (rulesOf shop) 0 (problemOf (order sheet))
 
   module _ (e : checkOrder shop sheet ≡ passed) where
     few-actions : length (domain shop .actions) ≤ 255
     few-actions = shop-actions shop (shop-of-order shop sheet e)
 
     runs-of : {xs : List Step} → Solves shop sheet xs → Accepted xs
-    runs-of h = (h .0, h .1, derivation-runs mostWaiting (domain shop) few-actions (h .2) .1)
+    runs-of h =
+        let t = derivation-runs (rulesOf shop) (strict-decided mostWaiting (domain shop)) few-actions (h .2) .1 in
+        (t .deeds, h .1, t .runs)
 
     solves-by : {xs : List Step} → Accepted xs → Solves shop sheet xs
     unfolding goalsOf
-    solves-by {xs} r =
-        (r .0, r .1, run-derives mostWaiting (domain shop) 0 _ _ xs _ _ (rw length-enter (order-goals shop sheet e)) (r .2))
+    solves-by {xs} r = (
+      _,
+      r .1,
+      run-derives (rulesOf shop) (strict-decided mostWaiting (domain shop)) 0 _ xs _ _ (rw length-enter (order-goals shop sheet e)) (r .2),
+    )
 
     best-of : {xs : List Step} → FirstOfShortest shop sheet xs → First xs
     best-of h = record {
@@ -66,102 +81,190 @@ module _ (shop sheet : List ℕ) where
     module _ (e : checkOrder shop sheet ≡ passed) where
       found-first : {xs : List Step} → searched shop sheet depth ≡ some xs → FirstOfShortest shop sheet xs × (length xs ≤ depth)
       unfolding searched
-      found-first q = let r = shortest-best depth _ _ _ (few-actions e) _ q in (first-by e (r .0), r .1)
+      found-first q = let t = shortest-best depth _ _ (few-actions e) _ q in (first-by e (t .0), t .1)
 
       first-found : {xs : List Step} → FirstOfShortest shop sheet xs → length xs ≤ depth → searched shop sheet depth ≡ some xs
       unfolding searched
-      first-found h l = best-found depth _ _ _ (few-actions e) _ (best-of e h) l
+      first-found h l = best-found depth _ _ (few-actions e) _ (best-of e h) l
 
       none-solves : searched shop sheet depth ≡ none → (xs : List Step) → length xs ≤ depth → ¬ Solves shop sheet xs
       unfolding searched
-      none-solves q xs l h = shortest-none depth _ _ _ q xs l (runs-of e h)
+      none-solves q xs l h = shortest-none depth _ _ q xs l (runs-of e h)
 
-    -- The questions before the search are all answered yes exactly when the sheets, the depth and the room pass.
-    passed-inputs : checkSearch shop sheet depth room ≡ passed → SearchPasses shop sheet depth room
-    unfolding checkSearch
-    passed-inputs e =
-        let r = andThen-passed _ _ e in
-        let a = ask-passed _ _ _ _ (r .1) in
-        (r .0, leb-true _ _ (a .0), leb-true _ _ (ask-passed _ _ _ _ (a .1) .0))
-
-    inputs-passed : SearchPasses shop sheet depth room → checkSearch shop sheet depth room ≡ passed
-    unfolding checkSearch andThen ask
-    inputs-passed p = rw (p .0, le-leb _ _ (p .1), le-leb _ _ (p .2))
-
-    searches : SearchPasses shop sheet depth room → search shop sheet depth room ≡ written room (searched shop sheet depth)
+    -- The question of this number is answered no, the room unchanged.
+    pub search-refused : (q : Refusal) → firstNo (searchQuestions shop sheet depth room) ≡ refused q → search shop sheet depth room ≡ noTrace room q
     unfolding search
-    searches p = rw (inputs-passed p, search)
+    search-refused q e = rw (e, search)
+
+    pub search-passed : firstNo (searchQuestions shop sheet depth room) ≡ passed
+        → search shop sheet depth room ≡ written room (stepsFound (searched shop sheet depth))
+    unfolding search
+    search-passed e = rw (e, search)
+
+    -- After the sheets have passed, three questions are left.
+    pub search-inputs : checkOrder shop sheet ≡ passed
+        → firstNo (searchQuestions shop sheet depth room)
+        ≡ firstNo (41 asks leb depth mostDepth ∷ 42 asks leb (sizeWords + 2 * depth) (length room) ∷ 43 asks isFound (searched shop sheet depth) ∷ [])
+    unfolding searchQuestions checkOrder
+    search-inputs e = append-passed (shopQuestions shop ++ orderQuestions shop sheet) _ e
+
+    pub sheets-refused : (q : Refusal) → checkOrder shop sheet ≡ refused q → firstNo (searchQuestions shop sheet depth room) ≡ refused q
+    unfolding searchQuestions checkOrder
+    sheets-refused q e = append-refused (shopQuestions shop ++ orderQuestions shop sheet) _ q e
+
+    pub depth-refused : checkOrder shop sheet ≡ passed → leb depth mostDepth ≡ false
+        → firstNo (searchQuestions shop sheet depth room) ≡ refused ((41 asks false) .refusal)
+    unfolding firstNo
+    depth-refused h e = search-inputs h ∙ rw e
+
+    pub room-refused : checkOrder shop sheet ≡ passed → leb depth mostDepth ≡ true → leb (sizeWords + 2 * depth) (length room) ≡ false
+        → firstNo (searchQuestions shop sheet depth room) ≡ refused ((42 asks false) .refusal)
+    unfolding firstNo
+    room-refused h e f = search-inputs h ∙ rw (e, f)
+
+    pub inputs-searched : SearchPasses shop sheet depth room
+        → firstNo (searchQuestions shop sheet depth room) ≡ firstNo (43 asks isFound (searched shop sheet depth) ∷ [])
+    unfolding firstNo
+    inputs-searched p = search-inputs (p .0) ∙ rw (le-leb _ _ (p .1), le-leb _ _ (p .2))
 
     -- A search refuses by a number that is neither 0 nor 43, finds no steps, or finds some.
-    data Report : Searched → Type 0 where
-      refuses : (number place : ℕ) → number ≢ 0 → number ≢ 43 → Report (noTrace room number place)
-      finds-none : SearchPasses shop sheet depth room → searched shop sheet depth ≡ none → Report (noTrace room 43 0)
-      finds-some : {xs : List Step} → SearchPasses shop sheet depth room → searched shop sheet depth ≡ some xs → Report (written room (some xs))
+    pub data Report (c : Searched) : Type 0 where
+      refuses : (q : Refusal) → q .number ≢ 0 → q .number ≢ 43 → firstNo (searchQuestions shop sheet depth room) ≡ refused q
+          → c ≡ noTrace room q → Report c
+      finds-none : SearchPasses shop sheet depth room → searched shop sheet depth ≡ none → (q : Refusal) → q .number ≡ 43
+          → firstNo (searchQuestions shop sheet depth room) ≡ refused q → c ≡ noTrace room q → Report c
+      finds-some : {xs : List Step} → SearchPasses shop sheet depth room → searched shop sheet depth ≡ some xs
+          → firstNo (searchQuestions shop sheet depth room) ≡ passed → c ≡ written room xs → Report c
+
+    -- Where sheets, depth and room pass, only 43 can refuse.
+    only-43 : SearchPasses shop sheet depth room → (q : Refusal) → firstNo (searchQuestions shop sheet depth room) ≡ refused q → q .number ≡ 43
+    only-43 p q f = refused-number (λ k. k ≡ 43) (43 asks isFound (searched shop sheet depth) ∷ []) (refl, tt) q (sym (inputs-searched p) ∙ f)
 
     report : Report (search shop sheet depth room)
-    unfolding search written
-    report = go (checkSearch shop sheet depth room) refl (search-numbered shop sheet depth room) (search-before-43 shop sheet depth room)
+    unfolding isFound stepsFound firstNo checkOrder
+    report = go (checkOrder shop sheet) refl
       where
-        found : (o : Option (List Step)) → searched shop sheet depth ≡ o → SearchPasses shop sheet depth room → Report (written room o)
-        found none q p = finds-none p q
-        found (some xs) q p = finds-some p q
+        searching : SearchPasses shop sheet depth room → (o : Option (List Step)) → searched shop sheet depth ≡ o → Report (search shop sheet depth room)
+        searching p none q =
+            let e = inputs-searched p ∙ ap (λ (o : Option (List Step)). firstNo (43 asks isFound o ∷ [])) q in
+            finds-none p q _ refl e (search-refused _ e)
+        searching p (some xs) q =
+            let e = inputs-searched p ∙ ap (λ (o : Option (List Step)). firstNo (43 asks isFound o ∷ [])) q in
+            finds-some p q e (search-passed e ∙ ap (λ (o : Option (List Step)). written room (stepsFound o)) q)
 
-        go : (v : Verdict) → checkSearch shop sheet depth room ≡ v → Numbered v → Within (λ k. k ≢ 43) v → Report (search shop sheet depth room)
-        go passed e h k = rw (e, search) (found (searched shop sheet depth) refl (passed-inputs e))
-        go (refused number place) e h k = rw (e, search) (refuses number place h k)
+        roomy : checkOrder shop sheet ≡ passed → (b : Bool) → leb depth mostDepth ≡ b → (c : Bool) → leb (sizeWords + 2 * depth) (length room) ≡ c
+            → Report (search shop sheet depth room)
+        roomy h true e true f = searching (h, leb-true _ _ e, leb-true _ _ f) (searched shop sheet depth) refl
+        roomy h true e false f = let k = room-refused h e f in refuses ((42 asks false) .refusal) (omega arith) (omega arith) k (search-refused _ k)
+        roomy h false e c f = let k = depth-refused h e in refuses ((41 asks false) .refusal) (omega arith) (omega arith) k (search-refused _ k)
 
-    found-solves : {r : Searched} → Report r → r .number ≡ 0
-        → SearchPasses shop sheet depth room × ((xs : List Step) × FirstOfShortest shop sheet xs × (length xs ≤ depth))
-    unfolding noTrace
-    found-solves (refuses number place h k) z = absurd (h z)
-    found-solves (finds-none p q) z = absurd (omega arith)
-    found-solves (finds-some {xs} p q) z = let r = found-first (p .0) q in (p, (xs, r .0, r .1))
+        go : (v : Verdict) → checkOrder shop sheet ≡ v → Report (search shop sheet depth room)
+        go passed e = roomy e (leb depth mostDepth) refl (leb (sizeWords + 2 * depth) (length room)) refl
+        go (refused q) e =
+            let k = sheets-refused q e in
+            let qs = shopQuestions shop ++ orderQuestions shop sheet in
+            refuses q (refused-number (λ k. k ≢ 0) qs (of-order (λ k. k ≢ 0) not-zero shop sheet) q e)
+            (refused-number (λ k. k ≢ 43) qs (of-order (λ k. k ≢ 43) (λ k l. omega arith) shop sheet) q e) k (search-refused q k)
 
-    -- Steps accepted within the depth are not missed.
-    solves-found : SearchPasses shop sheet depth room → (xs : List Step) → Solves shop sheet xs → length xs ≤ depth
-        → search shop sheet depth room .number ≡ 0
-    unfolding written
-    solves-found p xs h l = ap (λ (r : Searched). r .number) (searches p) ∙ go (searched shop sheet depth) refl
-      where
-        go : (o : Option (List Step)) → searched shop sheet depth ≡ o → written room (searched shop sheet depth) .number ≡ 0
-        go none q = absurd (none-solves (p .0) q xs l h)
-        go (some ys) q = rw q refl
+    module _ (c : Searched) (called : c ≡ search shop sheet depth room) where
+      reports : Report c
+      reports = subst Report (sym called) report
 
-    results : (xs : List Step) → SearchPasses shop sheet depth room → FirstOfShortest shop sheet xs → length xs ≤ depth
-        → Finds shop sheet room xs (search shop sheet depth room)
-    results xs p h l =
-        rw (searches p, first-found (p .0) h l)
-        (finds xs shop sheet room (p .0) (omega (arith, l, p .1)) (omega (arith, l, p .2)))
+      number-of : {d : Searched} → c ≡ d → c .refusal .number ≡ d .refusal .number
+      number-of e = ap (λ (c : Searched). c .refusal .number) e
 
-    none-found : {r : Searched} → Report r → r ≡ noTrace room 43 0
-        → SearchPasses shop sheet depth room × ((xs : List Step) → length xs ≤ depth → ¬ Solves shop sheet xs)
-    unfolding noTrace written
-    none-found (refuses number place h k) e = absurd (k (ap (λ (r : Searched). r .number) e))
-    none-found (finds-none p q) e = (p, none-solves (p .0) q)
-    none-found (finds-some p q) e = let z : _≡_ {A = ℕ} 0 43 = ap (λ (r : Searched). r .number) e in absurd (omega arith)
+      -- It tells the first no of its questions, and a refusal leaves the room as it was.
+      pub search-tells : Tells (c .refusal) (firstNo (searchQuestions shop sheet depth room))
+      unfolding noTrace written
+      search-tells = go reports
+        where
+          go : Report c → Tells (c .refusal) (firstNo (searchQuestions shop sheet depth room))
+          go (refuses q h k f e) = rw (f, e) tells-refusal
+          go (finds-none p s q h f e) = rw (f, e) tells-refusal
+          go (finds-some p s f e) = rw (f, e) (tells-passed refl)
 
-    found-none : SearchPasses shop sheet depth room → ((xs : List Step) → length xs ≤ depth → ¬ Solves shop sheet xs)
-        → search shop sheet depth room ≡ noTrace room 43 0
-    unfolding written
-    found-none p h = searches p ∙ go (searched shop sheet depth) refl
-      where
-        go : (o : Option (List Step)) → searched shop sheet depth ≡ o → written room (searched shop sheet depth) ≡ noTrace room 43 0
-        go none q = ap (written room) q
-        go (some xs) q = let r = found-first (p .0) q in absurd (h xs (r .1) (r .0 .solves))
+      pub search-leaves : c .refusal .number ≢ 0 → c .room ≡ room
+      unfolding noTrace written
+      search-leaves z = go reports
+        where
+          go : Report c → c .room ≡ room
+          go (refuses q h k f e) = ap (λ (c : Searched). c .room) e
+          go (finds-none p s q h f e) = ap (λ (c : Searched). c .room) e
+          go (finds-some p s f e) = absurd (z (number-of e))
+
+      found-solves : c .refusal .number ≡ 0
+          → SearchPasses shop sheet depth room
+          × ((xs : List Step) × FirstOfShortest shop sheet xs × (length xs ≤ depth) × Finds shop sheet room xs c)
+      unfolding noTrace
+      found-solves z = go reports
+        where
+          go : Report c
+              → SearchPasses shop sheet depth room
+              × ((xs : List Step) × FirstOfShortest shop sheet xs × (length xs ≤ depth) × Finds shop sheet room xs c)
+          go (refuses q h k f e) = absurd (h (sym (number-of e) ∙ z))
+          go (finds-none p s q h f e) = let y : _≡_ {A = ℕ} 43 0 = sym h ∙ sym (number-of e) ∙ z in absurd (omega arith)
+          go (finds-some {xs} p s f e) =
+              let t = found-first (p .0) s in
+              (p, (xs, t .0, t .1, rw e (finds xs shop sheet room (p .0) (omega (arith, t .1, p .1)) (omega (arith, t .1, p .2)))))
+
+      -- Steps accepted within the depth are not missed.
+      solves-found : SearchPasses shop sheet depth room → (xs : List Step) → Solves shop sheet xs → length xs ≤ depth → c .refusal .number ≡ 0
+      unfolding written
+      solves-found p xs h l = go reports
+        where
+          go : Report c → c .refusal .number ≡ 0
+          go (refuses q a b f e) = absurd (b (only-43 p q f))
+          go (finds-none k s q n f e) = absurd (none-solves (p .0) s xs l h)
+          go (finds-some k s f e) = number-of e
+
+      none-found : c .refusal .number ≡ 43
+          → SearchPasses shop sheet depth room × ((xs : List Step) → length xs ≤ depth → ¬ Solves shop sheet xs)
+      unfolding noTrace written
+      none-found z = go reports
+        where
+          go : Report c → SearchPasses shop sheet depth room × ((xs : List Step) → length xs ≤ depth → ¬ Solves shop sheet xs)
+          go (refuses q h k f e) = absurd (k (sym (number-of e) ∙ z))
+          go (finds-none p s q h f e) = (p, none-solves (p .0) s)
+          go (finds-some p s f e) = let y : _≡_ {A = ℕ} 0 43 = sym (number-of e) ∙ z in absurd (omega arith)
+
+      found-none : SearchPasses shop sheet depth room → ((xs : List Step) → length xs ≤ depth → ¬ Solves shop sheet xs) → c .refusal .number ≡ 43
+      unfolding noTrace
+      found-none p h = go reports
+        where
+          go : Report c → c .refusal .number ≡ 43
+          go (refuses q a b f e) = number-of e ∙ only-43 p q f
+          go (finds-none k s q n f e) = number-of e ∙ n
+          go (finds-some {xs} k s f e) = let t = found-first (k .0) s in absurd (h xs (t .1) (t .0 .solves))
 
 pub demand-2-of-search : Demand2OfSearch
-demand-2-of-search shop sheet depth room =
-    let t = found-solves shop sheet depth room (report shop sheet depth room) in
-    record {
-      finds-iff = (
-        λ z. let r = t z in (r .0, (r .1 .0, r .1 .1 .solves, r .1 .2)),
-        λ h. solves-found shop sheet depth room (h .0) (h .1 .0) (h .1 .1) (h .1 .2),
-      );
-      results = results shop sheet depth room;
-      exists = λ z. t z .1;
-      one-only = one-only shop sheet;
-      none-iff = (
-        none-found shop sheet depth room (report shop sheet depth room),
-        λ h. found-none shop sheet depth room (h .0) (h .1),
-      );
-    }
+demand-2-of-search shop sheet depth room c called = record {
+  finds-iff = (
+    λ z. let t = found-solves shop sheet depth room c called z in (t .0, (t .1 .0, t .1 .1 .solves, t .1 .2)),
+    λ h. solves-found shop sheet depth room c called (h .0) (h .1 .0) (h .1 .1) (h .1 .2),
+  );
+  results = λ z. found-solves shop sheet depth room c called z .1;
+  one-only = one-only shop sheet;
+  none-iff = (none-found shop sheet depth room c called, λ h. found-none shop sheet depth room c called (h .0) (h .1));
+}
+
+-- What a search finds is accepted by the replay, and after 43 nothing within the depth is.
+pub search-agrees-with-replay : SearchAgreesWithReplay
+search-agrees-with-replay shop sheet depth room c called = record {
+  found-is-accepted = λ z plan e replayed l.
+      let x = found-solves shop sheet depth room c called z .1 in
+      let f = x .3 in
+      let words : take (sizeWords + 2 * c .refusal .place) (c .room) ≡ take (sizeWords + 2 * length (x .0)) (c .room) =
+      ap (λ (n : ℕ). take (sizeWords + 2 * n) (c .room)) (f .place) in
+      let trace = take (sizeWords + 2 * length (x .0)) (c .room) in
+      let s = x .1 .solves in
+      demand-2 shop sheet trace plan e (replayed ∙ ap (λ (t : List ℕ). replay shop sheet t plan) words) .accepts-iff .1
+      ((f .trace-passes, short shop sheet trace plan (x .0) (f .trace-steps) (f .trace-passes) (rw⁻¹ (f .place) l)), (s .0, s .1, rw (f .trace-steps) (s .2)));
+  none-is-accepted = λ z trace plan e replayed l accepted.
+      let h = demand-2 shop sheet trace plan e replayed .accepts-iff .0 accepted in
+      none-found shop sheet depth room c called z .1 (stepsOf trace) (omega (arith, steps-short trace)) (h .1);
+}
+  where
+    -- A trace that passes says as many steps as it has.
+    short : (shop sheet trace plan : List ℕ) (xs : List Step) → stepsOf trace ≡ xs → checkTrace shop sheet trace ≡ passed → length xs ≤ length plan
+        → stepCount trace ≤ length plan
+    short shop sheet trace plan xs e h l = omega (arith, steps-length trace (trace-passed shop sheet trace h), ap length e)

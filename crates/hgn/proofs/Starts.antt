@@ -15,16 +15,16 @@ use Rattle.hgn.specs.Tag.{Position, shopFollow, orderFollow, inRange, be
 use Rattle.hgn.specs.Rows.{Row, has, valuesOf, mostRows}
 use Rattle.hgn.specs.Meaning.{Literal, Action, literals, actionOf, opens, headed, domainOf, orderOf}
 use Rattle.hgn.specs.State.{State, mostAtoms, emptyState, assign, atomsOf, γ}
-use Rattle.hgn.specs.Network.{Waiting}
-use Rattle.hgn.specs.Run.{Step, startOf}
-use Rattle.hgn.specs.Verdict.{passed}
+use Rattle.hgn.specs.Run.{Step, Problem, startOf, problemOf, strict}
+use Rattle.hgn.specs.Questions.{passed}
 use Rattle.hgn.specs.Shop as Shop
 use Rattle.hgn.specs.Shop.{domain, checkShop}
 use Rattle.hgn.specs.Order as Sheet
 use Rattle.hgn.specs.Order.{order, checkOrder}
 use Rattle.hgn.specs.Definition1.{Derivation, base, satisfaction, application, decomposition}
 use Rattle.hgn.proofs.Tests.{at-mem, replicate-default}
-use Rattle.hgn.proofs.Checked.{Checked, end, next, AtomsBelow, literal-cases, kept, block, shop-passed, shop-of-order}
+use Rattle.hgn.proofs.Passed.{Checked, end, next, shop-passed, shop-of-order}
+use Rattle.hgn.proofs.Checked.{AtomsBelow, literal-cases, kept, block}
 use Rattle.hgn.proofs.Sheets.{Rise, sound, later}
 
 -- The effects of an action speak of the shop's atoms.
@@ -128,18 +128,18 @@ start-fits shop sheet e =
     (fits-empty (Shop.atomCount shop))
 
 derivation-fits : (shop : List ℕ) → checkShop shop ≡ passed
-    → {limit n : ℕ} {s last : State} {w : List Waiting} {xs : List Step} {plan : List ℕ}
-    → Derivation limit (domain shop) n s w xs plan last → Fits (Shop.atomCount shop) s → Fits (Shop.atomCount shop) last
+    → {limit n : ℕ} {P : Problem} {last : State} {xs : List Step} {plan : List ℕ}
+    → Derivation (strict limit (domain shop)) n P xs plan last → Fits (Shop.atomCount shop) (P .state) → Fits (Shop.atomCount shop) last
 derivation-fits shop e base f = f
-derivation-fits shop e (satisfaction h a u g r) f = derivation-fits shop e r f
-derivation-fits shop e (application {s} {a} h i u c g k r) f =
-    derivation-fits shop e r (fits-γ (Shop.atomCount shop) s (a .effects) (effects-below shop e a (at-mem c)) f)
-derivation-fits shop e (decomposition h a u c g k r) f = derivation-fits shop e r f
+derivation-fits shop e (satisfaction h g i) f = derivation-fits shop e i f
+derivation-fits shop e (application {P} {a} h c g k i) f =
+    derivation-fits shop e i (fits-γ (Shop.atomCount shop) (P .state) (a .effects) (effects-below shop e a (at-mem c)) f)
+derivation-fits shop e (decomposition h c g k i) f = derivation-fits shop e i f
 
 pub last-fits : (shop sheet : List ℕ) → checkOrder shop sheet ≡ passed
-    → {limit n : ℕ} {last : State} {w : List Waiting} {xs : List Step} {plan : List ℕ}
-    → Derivation limit (domain shop) n (startOf (order sheet)) w xs plan last → Fits (Shop.atomCount shop) last
-last-fits shop sheet e r = derivation-fits shop (shop-of-order shop sheet e) r (start-fits shop sheet e)
+    → {limit n : ℕ} {last : State} {xs : List Step} {plan : List ℕ}
+    → Derivation (strict limit (domain shop)) n (problemOf (order sheet)) xs plan last → Fits (Shop.atomCount shop) last
+last-fits shop sheet e i = derivation-fits shop (shop-of-order shop sheet e) i (start-fits shop sheet e)
 
 -- The atoms of a state, the first of them being atom `i`.
 atomsFrom : ℕ → State → List ℕ

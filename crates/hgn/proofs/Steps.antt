@@ -1,110 +1,117 @@
--- What the questions of a step answered where it was taken, and back: from those answers the step is taken.
--- Assumes nothing.
+-- What the questions of a step answered where it was taken, and back: from those answers the step is taken. Assumes nothing.
 use Prim.Native.Nat.{ℕ, _<_, _≤_}
 use native.Mathlib.Omega.{arith}
-use mathlib.Core.Path.{_≡_, refl, _∙_, subst}
-use mathlib.Core.Bool.{Bool, true, false}
+use mathlib.Core.Path.{_≡_, refl, sym, ap, ap₂, _∙_, subst}
+use mathlib.Core.Bool.{true}
 use mathlib.Core.List.{List, [], _∷_}
 use lib.ListN.{length}
 use borrow.Author.Tests.{ltb-true, lt-ltb, leb-true, le-leb}
-use Rattle.hgn.specs.Meaning.{Domain, goalOf, networkOf}
-use Rattle.hgn.specs.State.{State, γ, allHold, formulaHolds, relevant}
-use Rattle.hgn.specs.Network.{Waiting, free, anyFree, goalAt, noGoal, released, decomposed}
-use Rattle.hgn.specs.Run.{Step, Move, release, act, use-method, unknown, moveOf, actionAt, methodAt, Stepped, taken, ask, askFree, moved, stepped}
+use Rattle.hgn.specs.Questions.{Refusal, Verdict, passed, firstNo}
+use Rattle.hgn.specs.Questions as Questions
+use Rattle.hgn.specs.Meaning.{networkOf}
+use Rattle.hgn.specs.State.{γ, allHold, formulaHolds}
+use Rattle.hgn.specs.Network.{Waiting, step, free, anyFree, goalAt, noGoal, released, decomposed}
+use Rattle.hgn.specs.Run.{Step, Move, release, act, use-method, unknown, moveOf, known, actionAt, methodAt, Problem, Rules, moved, ownQuestions, stepQuestions, Deed, releases, deedOf, Stepped, refused, taken, stepped}
+use Rattle.hgn.specs.Run as Run
 use Rattle.hgn.proofs.Tests.{true-any, at-of-lt, at-mem}
+use Rattle.hgn.proofs.Firsts.{passed-cons}
 
--- The answers to a move's own questions at place `p`.
-pub data Moved (limit : ℕ) (d : Domain) (n : ℕ) (s : State) (w : List Waiting) (p : ℕ) : Move → List ℕ → State → List Waiting → Type 0 where
-  by-release : formulaHolds s (goalAt w p .formula) ≡ true → Moved limit d n s w p release [] s (released w p)
-  by-action : {k : ℕ} → allHold s (actionAt d k .needs) ≡ true
-      → relevant (actionAt d k .effects) (goalAt w p .formula) ≡ true
-      → Moved limit d n s w p (act k) (k ∷ []) (γ s (actionAt d k .effects)) w
-  by-method : {m : ℕ} → allHold s (methodAt d m .needs) ≡ true
-      → relevant (goalOf (methodAt d m)) (goalAt w p .formula) ≡ true
-      → length (decomposed w p n (networkOf (methodAt d m))) ≤ limit
-      → Moved limit d n s w p (use-method m) [] s (decomposed w p n (networkOf (methodAt d m)))
-
-pub record Took (limit : ℕ) (d : Domain) (n : ℕ) (s : State) (w : List Waiting) (x : Step) (done : List ℕ) (s′ : State) (w′ : List Waiting) : Type 0 where
-  pub inside : x .place < length w
-  pub is-free : free w (goalAt w (x .place)) ≡ true
-  pub by : Moved limit d n s w (x .place) (moveOf d (x .move)) done s′ w′
-
--- A question in front of what was taken was answered yes.
-pub asked : (b : Bool) (number : ℕ) (r : Stepped) (done : List ℕ) (s : State) (w : List Waiting) → ask b number r ≡ taken done s w → (b ≡ true) × (r ≡ taken done s w)
-unfolding ask
-asked true number r done s w e = (refl, e)
-asked false number r done s w e = let z : _≡_ {A = ℕ} 0 1 = cc in absurd (omega arith)
-
-pub answered : (b : Bool) (number : ℕ) (r : Stepped) → b ≡ true → ask b number r ≡ r
-unfolding ask
-answered true number r e = refl
-answered false number r e = let z : _≡_ {A = ℕ} 0 1 = cc in absurd (omega arith)
+pub refused≢taken : {q : Refusal} {deed : Deed} {P : Problem} → refused q ≡ taken deed P → ⊥
+refused≢taken e = let z : _≡_ {A = ℕ} 0 1 = cc in omega arith
 
 -- What was taken, part by part.
-module _ {done done′ : List ℕ} {s s′ : State} {w w′ : List Waiting} (e : taken done s w ≡ taken done′ s′ w′) where
-  pub taken-done : done ≡ done′
-  taken-done = cc
+module _ {deed deed′ : Deed} {P P′ : Problem} (e : taken deed P ≡ taken deed′ P′) where
+  pub taken-deed : deed ≡ deed′
+  taken-deed = cc
 
-  pub taken-state : s ≡ s′
-  taken-state = cc
+  pub taken-problem : P ≡ P′
+  taken-problem = cc
 
-  pub taken-list : w ≡ w′
-  taken-list = cc
+-- The answers to a move's own questions at place `p`, what it did, and the problem that it leaves.
+pub data Moved (r : Rules) (n : ℕ) (P : Problem) (p : ℕ) : Move → Deed → Problem → Type 0 where
+  by-release : formulaHolds (P .state) (goalAt (P .waiting) p .formula) ≡ true
+      → Moved r n P p release (releases (goalAt (P .waiting) p ∷ [])) (record { state = P .state; waiting = released (P .waiting) p })
+  by-action : {k : ℕ} → allHold (P .state) (actionAt (r .domain) k .needs) ≡ true
+      → r .mayAct (actionAt (r .domain) k) (goalAt (P .waiting) p .formula) ≡ true
+      → Moved r n P p (act k) (Run.takes k) (record { state = γ (P .state) (actionAt (r .domain) k .effects); waiting = P .waiting })
+  by-method : {m : ℕ} → allHold (P .state) (methodAt (r .domain) m .needs) ≡ true
+      → r .mayUse (methodAt (r .domain) m) (goalAt (P .waiting) p .formula) ≡ true
+      → length (decomposed (P .waiting) p (step n) (networkOf (methodAt (r .domain) m))) ≤ r .limit
+      → Moved r n P p (use-method m) (Run.uses m (goalAt (P .waiting) p))
+      (record { state = P .state; waiting = decomposed (P .waiting) p (step n) (networkOf (methodAt (r .domain) m)) })
 
--- A free goal among the waiting answers 27 and 28 with yes.
+pub record Took (r : Rules) (n : ℕ) (P : Problem) (x : Step) (deed : Deed) (P′ : Problem) : Type 0 where
+  pub inside : x .place < length (P .waiting)
+  pub is-free : free (P .waiting) (goalAt (P .waiting) (x .place)) ≡ true
+  pub by : Moved r n P (x .place) (moveOf (r .domain) (x .move)) deed P′
+
+-- A free goal among the waiting answers 27 with yes.
 pub some-free : (w : List Waiting) (p : ℕ) → p < length w → free w (goalAt w p) ≡ true → anyFree w ≡ true
 unfolding anyFree
 some-free w p h e = true-any (free w) w (at-mem (at-of-lt w p noGoal h)) e
 
-pub free-answered : (w : List Waiting) (p : ℕ) → p < length w → free w (goalAt w p) ≡ true → (r : Stepped) → askFree w (goalAt w p) r ≡ r
-unfolding askFree
-free-answered w p h e r = answered _ 27 _ (some-free w p h e) ∙ answered _ 28 _ e
-
-module _ {limit : ℕ} {d : Domain} {n : ℕ} {s : State} {w : List Waiting} where
-  cast : {p : ℕ} {m : Move} {done done′ : List ℕ} {s₁ s₂ : State} {w₁ w₂ : List Waiting} → taken done s₁ w₁ ≡ taken done′ s₂ w₂
-      → Moved limit d n s w p m done s₁ w₁ → Moved limit d n s w p m done′ s₂ w₂
-  cast {p} {m} {done} {done′} {s₁} {s₂} {w₁} {w₂} e h =
-      let a : Moved limit d n s w p m done′ s₁ w₁ = subst (λ (k : List ℕ). Moved limit d n s w p m k s₁ w₁) (taken-done e) h in
-      let b : Moved limit d n s w p m done′ s₂ w₁ = subst (λ (k : State). Moved limit d n s w p m done′ k w₁) (taken-state e) a in
-      subst (λ (k : List Waiting). Moved limit d n s w p m done′ s₂ k) (taken-list e) b
-
-  moved-inv : (p : ℕ) (m : Move) (done : List ℕ) (s′ : State) (w′ : List Waiting) → moved limit d n s w p m ≡ taken done s′ w′
-      → (free w (goalAt w p) ≡ true) × Moved limit d n s w p m done s′ w′
-  unfolding moved askFree
-  moved-inv p release done s′ w′ e =
-      let a = asked _ 27 _ done s′ w′ e in
-      let b = asked _ 28 _ done s′ w′ (a .1) in
-      let c = asked _ 29 _ done s′ w′ (b .1) in
-      (b .0, cast (c .1) (by-release (c .0)))
-  moved-inv p (act k) done s′ w′ e =
-      let a = asked _ 27 _ done s′ w′ e in
-      let b = asked _ 28 _ done s′ w′ (a .1) in
-      let c = asked _ 30 _ done s′ w′ (b .1) in
-      let f = asked _ 31 _ done s′ w′ (c .1) in
-      (b .0, cast (f .1) (by-action (c .0) (f .0)))
-  moved-inv p (use-method m) done s′ w′ e =
-      let a = asked _ 27 _ done s′ w′ e in
-      let b = asked _ 28 _ done s′ w′ (a .1) in
-      let c = asked _ 30 _ done s′ w′ (b .1) in
-      let f = asked _ 31 _ done s′ w′ (c .1) in
-      let g = asked _ 32 _ done s′ w′ (f .1) in
-      (b .0, cast (g .1) (by-method (c .0) (f .0) (leb-true _ _ (g .0))))
-  moved-inv p unknown done s′ w′ e = let z : _≡_ {A = ℕ} 0 1 = cc in absurd (omega arith)
-
-  pub took : (x : Step) (done : List ℕ) (s′ : State) (w′ : List Waiting) → stepped limit d n s w x ≡ taken done s′ w′ → Took limit d n s w x done s′ w′
+module _ (r : Rules) (n : ℕ) (P : Problem) where
+  -- The first no of a step's questions is what it is refused by, and where there is none it is taken.
+  pub step-refused : (x : Step) (q : Refusal) → firstNo (stepQuestions r n P x) ≡ Questions.refused q → stepped r n P x ≡ refused q
   unfolding stepped
-  took x done s′ w′ e =
-      let a = asked _ 25 _ done s′ w′ e in
-      let b = moved-inv (x .place) (moveOf d (x .move)) done s′ w′ (a .1) in
-      record { inside = ltb-true _ _ (a .0); is-free = b .0; by = b .1 }
+  step-refused x q e = rw (e, stepped)
 
-  moved-back : (p : ℕ) → p < length w → free w (goalAt w p) ≡ true → {m : Move} {done : List ℕ} {s′ : State} {w′ : List Waiting}
-      → Moved limit d n s w p m done s′ w′ → moved limit d n s w p m ≡ taken done s′ w′
-  unfolding moved
-  moved-back p h e (by-release a) = free-answered w p h e _ ∙ answered _ 29 _ a
-  moved-back p h e (by-action a b) = free-answered w p h e _ ∙ answered _ 30 _ a ∙ answered _ 31 _ b
-  moved-back p h e (by-method a b c) = free-answered w p h e _ ∙ answered _ 30 _ a ∙ answered _ 31 _ b ∙ answered _ 32 _ (le-leb _ _ c)
-
-  pub takes : (x : Step) (done : List ℕ) (s′ : State) (w′ : List Waiting) → Took limit d n s w x done s′ w′ → stepped limit d n s w x ≡ taken done s′ w′
+  pub step-passed : (x : Step) → firstNo (stepQuestions r n P x) ≡ passed
+      → stepped r n P x ≡ taken (deedOf P (x .place) (moveOf (r .domain) (x .move))) (moved (r .domain) n P (x .place) (moveOf (r .domain) (x .move)))
   unfolding stepped
-  takes x done s′ w′ t = answered _ 25 _ (lt-ltb _ _ (t .inside)) ∙ moved-back (x .place) (t .inside) (t .is-free) (t .by)
+  step-passed x e = rw (e, stepped)
+
+  -- A step that is taken has passed its questions.
+  pub taken-passed : (x : Step) (deed : Deed) (P′ : Problem) → stepped r n P x ≡ taken deed P′ → firstNo (stepQuestions r n P x) ≡ passed
+  taken-passed x deed P′ e = go (firstNo (stepQuestions r n P x)) refl
+    where
+      go : (v : Verdict) → firstNo (stepQuestions r n P x) ≡ v → firstNo (stepQuestions r n P x) ≡ passed
+      go passed q = q
+      go (Questions.refused q) f = absurd (refused≢taken (sym (step-refused x q f) ∙ e))
+
+module _ {r : Rules} {n : ℕ} {P : Problem} where
+  own-answers : (p : ℕ) (m : Move) → known m ≡ true → firstNo (ownQuestions r n P p m) ≡ passed
+      → Moved r n P p m (deedOf P p m) (moved (r .domain) n P p m)
+  unfolding ownQuestions deedOf moved known
+  own-answers p release k e = by-release (passed-cons _ _ e .0)
+  own-answers p (act a) k e =
+      let b = passed-cons _ _ e in
+      by-action (b .0) (passed-cons _ _ (b .1) .0)
+  own-answers p (use-method m) k e =
+      let b = passed-cons _ _ e in
+      let c = passed-cons _ _ (b .1) in
+      by-method (b .0) (c .0) (leb-true _ _ (passed-cons _ _ (c .1) .0))
+  own-answers p unknown k e = let z : _≡_ {A = ℕ} 0 1 = cc in absurd (omega arith)
+
+  pub took : (x : Step) (deed : Deed) (P′ : Problem) → stepped r n P x ≡ taken deed P′ → Took r n P x deed P′
+  unfolding stepQuestions
+  took x deed P′ e =
+      let pass = taken-passed r n P x deed P′ e in
+      let a = passed-cons _ _ pass in
+      let b = passed-cons _ _ (a .1) in
+      let c = passed-cons _ _ (b .1) in
+      let d = passed-cons _ _ (c .1) in
+      let same = sym (step-passed r n P x pass) ∙ e in
+      record {
+        inside = ltb-true _ _ (a .0);
+        is-free = d .0;
+        by =
+            subst (λ (Q : Problem). Moved r n P (x .place) (moveOf (r .domain) (x .move)) deed Q) (taken-problem same)
+            (subst (λ (k : Deed). Moved r n P (x .place) (moveOf (r .domain) (x .move)) k (moved (r .domain) n P (x .place) (moveOf (r .domain) (x .move)))) (taken-deed same)
+            (own-answers (x .place) (moveOf (r .domain) (x .move)) (b .0) (d .1)));
+      }
+
+  own-passed : {p : ℕ} {m : Move} {deed : Deed} {P′ : Problem} → Moved r n P p m deed P′
+      → (known m ≡ true) × (firstNo (ownQuestions r n P p m) ≡ passed) × (taken (deedOf P p m) (moved (r .domain) n P p m) ≡ taken deed P′)
+  unfolding ownQuestions deedOf moved known firstNo
+  own-passed (by-release a) = (refl, rw a, refl)
+  own-passed (by-action a b) = (refl, rw (a, b), refl)
+  own-passed (by-method a b c) = (refl, rw (a, b, le-leb _ _ c), refl)
+
+  pub takes : (x : Step) (deed : Deed) (P′ : Problem) → Took r n P x deed P′ → stepped r n P x ≡ taken deed P′
+  unfolding stepQuestions firstNo
+  takes x deed P′ t =
+      let own = own-passed (t .by) in
+      step-passed r n P x
+      (rw (lt-ltb _ _ (t .inside), own .0, some-free (P .waiting) (x .place) (t .inside) (t .is-free), t .is-free) (own .1))
+      ∙ own .2

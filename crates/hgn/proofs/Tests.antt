@@ -13,9 +13,11 @@ use lib.ListN.{length, getD, replicate}
 use borrow.Author.Tests.{eqb-true, eq-eqb, not-true, ltb-true, ltb-false}
 use Rattle.hgn.specs.Lists.{any, all, among, below, At, here, there}
 use Rattle.hgn.specs.Meaning.{Literal, Formula}
-use Rattle.hgn.specs.State.{State, literalHolds, allHold, formulaHolds, contains, relevant, opposite}
+use Rattle.hgn.specs.State.{State, literalHolds, allHold, formulaHolds, contains, relevant, opposite, Entails, EntailsAll, Satisfies, LiteralOf, Relevant}
 use Rattle.hgn.specs.Network.{Origin, order, step, Name, Waiting, sameOrigin, sameName, isParent, comesAfter, free}
-use Rattle.hgn.specs.Definition1.{Entails, EntailsAll, Satisfies, LiteralOf, Relevant, Listed, by-row, by-method, Precedes, listed, through, Unconstrained}
+use Rattle.hgn.specs.Meaning.{Domain}
+use Rattle.hgn.specs.Run.{Decided, strict}
+use Rattle.hgn.specs.Definition1.{Listed, by-row, by-method, Precedes, listed, through, Unconstrained}
 
 -- Connectives.
 
@@ -38,10 +40,6 @@ true-or-left false b p = absurd (false≢true p)
 pub true-or-right : (a b : Bool) → b ≡ true → (a || b) ≡ true
 true-or-right true b p = refl
 true-or-right false b p = p
-
-pub or-false : (a b : Bool) → (a || b) ≡ false → (a ≡ false) × (b ≡ false)
-or-false true b e = absurd (true≢false e)
-or-false false b e = (refl, e)
 
 pub false-or : (a b : Bool) → a ≡ false → b ≡ false → (a || b) ≡ false
 false-or true b p q = p
@@ -242,6 +240,13 @@ relevant-iff effects f = (to, from)
       where
         none-opposed : (l : Literal) × List·Memᴰ l (flatten f) × (opposed l ≡ true) → ⊥
         none-opposed q = r .no-opposite (q .0) (flatten-literal f (q .0) .0 (q .1)) (contains-iff effects (opposite (q .0)) .0 (q .2))
+
+-- The tests of 000's rules decide their propositions.
+pub strict-decided : (limit : ℕ) (d : Domain) → Decided (strict limit d)
+strict-decided limit d = record {
+  act-iff = λ a g. relevant-iff (a .effects) g;
+  use-iff = λ m g. relevant-iff _ g;
+}
 
 -- Networks.
 

@@ -7,10 +7,10 @@ use mathlib.Core.Logic.{⊎-elim}
 use mathlib.Core.List.{List, [], _∷_}
 use lib.ListN.{length, length-append, length-take, length-drop}
 use Rattle.hgn.specs.Lists.{all}
-use Rattle.hgn.specs.Meaning.{Domain, Node, networkOf}
+use Rattle.hgn.specs.Meaning.{Node, networkOf}
 use Rattle.hgn.specs.State.{State, formulaHolds}
-use Rattle.hgn.specs.Network.{Waiting, noGoal, released, decomposed, mostWaiting}
-use Rattle.hgn.specs.Run.{Step, Move, methodAt, run}
+use Rattle.hgn.specs.Network.{Origin, step, Waiting, noGoal, released, decomposed}
+use Rattle.hgn.specs.Run.{Step, Move, methodAt, Problem, Rules, Deed, runBy}
 use Rattle.hgn.proofs.Tests.{all-true, true-all, at-of-lt}
 use Rattle.hgn.proofs.Steps.{Moved, by-release, by-action, by-method, took}
 use Rattle.hgn.proofs.Waiting.{stays}
@@ -22,46 +22,46 @@ pub one-released : (w : List Waiting) (p : ℕ) → p < length w → suc (length
 unfolding released
 one-released w p h = simp (length-append, length-take, length-drop) (omega arith)
 
-pub none-lost : (w : List Waiting) (p n : ℕ) (nodes : List Node) → p < length w → length w ≤ length (decomposed w p n nodes)
+pub none-lost : (w : List Waiting) (p : ℕ) (o : Origin) (nodes : List Node) → p < length w → length w ≤ length (decomposed w p o nodes)
 unfolding decomposed
-none-lost w p n nodes h = simp (length-append, length-take, length-drop) (omega arith)
+none-lost w p o nodes h = simp (length-append, length-take, length-drop) (omega arith)
 
-module _ {d : Domain} {n : ℕ} {s : State} {w : List Waiting} {p : ℕ} (h : p < length w) where
+module _ {r : Rules} {n : ℕ} {P : Problem} {p : ℕ} (h : p < length (P .waiting)) where
   -- A step takes at most one goal off.
-  one-less : {m : Move} {done : List ℕ} {s′ : State} {w′ : List Waiting} → Moved mostWaiting d n s w p m done s′ w′
-      → length w ≤ suc (length w′)
-  one-less (by-release f) = omega (arith, one-released w p h)
+  one-less : {m : Move} {deed : Deed} {P′ : Problem} → Moved r n P p m deed P′ → length (P .waiting) ≤ suc (length (P′ .waiting))
+  one-less (by-release f) = omega (arith, one-released (P .waiting) p h)
   one-less (by-action f g) = omega arith
-  one-less (by-method {m} f g b) = omega (arith, none-lost w p n (networkOf (methodAt d m)) h)
+  one-less (by-method {m} f g b) = omega (arith, none-lost (P .waiting) p (step n) (networkOf (methodAt (r .domain) m)) h)
 
-pub waits-at-most : (d : Domain) (n : ℕ) (s : State) (w : List Waiting) (xs : List Step) → Runs d n s w xs → length w ≤ length xs
-unfolding run
-waits-at-most d n s w [] r = omega (arith, ap {B = ℕ} length (ended-empty n s w (r .0) (r .1) (r .2) .0))
-waits-at-most d n s w (x ∷ xs) r =
-    let f = runs-head d n s w x xs r in
-    let t = took x (f .0) (f .1) (f .2) (f .3) in
-    omega (arith, one-less (t .inside) (t .by), waits-at-most d (suc n) (f .1) (f .2) xs (f .4))
+pub waits-at-most : (r : Rules) (n : ℕ) (P : Problem) (xs : List Step) → Runs r n P xs → length (P .waiting) ≤ length xs
+unfolding runBy
+waits-at-most r n P [] h = omega (arith, ap {B = ℕ} length (ended-empty n P (h .0) (h .1) (h .2) .0))
+waits-at-most r n P (x ∷ xs) h =
+    let f = runs-head r n P x xs h in
+    let t = took x (f .0) (f .1) (f .2) in
+    omega (arith, one-less (t .inside) (t .by), waits-at-most r (suc n) (f .1) xs (f .3))
 
 -- Every goal holds.
 abbrev pub allMet : State → List Waiting → Bool
 allMet s w = all (λ g. formulaHolds s (g .formula)) w
 
 -- With as many steps as goals each step is a release, and the state stays.
-pub waits-all-hold : (d : Domain) (n : ℕ) (s : State) (w : List Waiting) (xs : List Step) → Runs d n s w xs → length xs ≡ length w
-    → allMet s w ≡ true
-unfolding run all
-waits-all-hold d n s w [] r e = ap (allMet s) (ended-empty n s w (r .0) (r .1) (r .2) .0)
-waits-all-hold d n s w (x ∷ xs) r e =
-    let f = runs-head d n s w x xs r in
-    let t = took x (f .0) (f .1) (f .2) (f .3) in
-    go (t .inside) (t .by) (waits-at-most d (suc n) (f .1) (f .2) xs (f .4)) (waits-all-hold d (suc n) (f .1) (f .2) xs (f .4))
+pub waits-all-hold : (r : Rules) (n : ℕ) (P : Problem) (xs : List Step) → Runs r n P xs → length xs ≡ length (P .waiting)
+    → allMet (P .state) (P .waiting) ≡ true
+unfolding runBy all
+waits-all-hold r n P [] h e = ap (allMet (P .state)) (ended-empty n P (h .0) (h .1) (h .2) .0)
+waits-all-hold r n P (x ∷ xs) h e =
+    let f = runs-head r n P x xs h in
+    let t = took x (f .0) (f .1) (f .2) in
+    go (t .inside) (t .by) (waits-at-most r (suc n) (f .1) xs (f .3)) (waits-all-hold r (suc n) (f .1) xs (f .3))
   where
-    go : {p : ℕ} {m : Move} {done : List ℕ} {s′ : State} {w′ : List Waiting} → p < length w → Moved mostWaiting d n s w p m done s′ w′
-        → length w′ ≤ length xs → (length xs ≡ length w′ → allMet s′ w′ ≡ true) → allMet s w ≡ true
+    go : {p : ℕ} {m : Move} {deed : Deed} {P′ : Problem} → p < length (P .waiting) → Moved r n P p m deed P′
+        → length (P′ .waiting) ≤ length xs → (length xs ≡ length (P′ .waiting) → allMet (P′ .state) (P′ .waiting) ≡ true)
+        → allMet (P .state) (P .waiting) ≡ true
     go {p} h (by-release f) l ih =
-        let rest = ih (omega (arith, one-released w p h)) in
-        true-all (λ g. formulaHolds s (g .formula)) w λ a m.
-        ⊎-elim (λ q. ap (λ (g : Waiting). formulaHolds s (g .formula)) q ∙ f)
-        (all-true (λ g. formulaHolds s (g .formula)) (released w p) rest) (stays (at-of-lt w p noGoal h) m)
+        let rest = ih (omega (arith, one-released (P .waiting) p h)) in
+        true-all (λ g. formulaHolds (P .state) (g .formula)) (P .waiting) λ a m.
+        ⊎-elim (λ q. ap (λ (g : Waiting). formulaHolds (P .state) (g .formula)) q ∙ f)
+        (all-true (λ g. formulaHolds (P .state) (g .formula)) (released (P .waiting) p) rest) (stays (at-of-lt (P .waiting) p noGoal h) m)
     go {p} h (by-action f k) l ih = absurd (omega arith)
-    go {p} h (by-method {m} f k b) l ih = absurd (omega (arith, none-lost w p n (networkOf (methodAt d m)) h))
+    go {p} h (by-method {m} f k b) l ih = absurd (omega (arith, none-lost (P .waiting) p (step n) (networkOf (methodAt (r .domain) m)) h))

@@ -105,7 +105,12 @@ cases =
 
 abbrev pub expected : Case → Replayed
 expected c = record {
-  answer = record { number = c .number; place = c .place; state = assign true (c .atoms) emptyState; count = c .count; cost = c .cost };
+  answer = record {
+    refusal = record { number = c .number; place = c .place };
+    state = assign true (c .atoms) emptyState;
+    count = c .count;
+    cost = c .cost;
+  };
   room = c .room;
 }
 

@@ -1,109 +1,108 @@
--- What is proved of the definitions, each as a named type: the demands of document 00, and what document 01 and source
--- document 000 say of networks, methods, effects and costs, quoted above each. A value of each stands in `proofs/`, gathered in
--- `proofs/Demands.antt`. That a call answers what a definition says is the call's contract.
-use Prim.Native.Nat.{ℕ, suc, _+_, _-_, _*_, _≤_, _<_}
+-- What is proved of the calls: the three demands of document 00, each as a named type with the demand quoted above it. Each speaks of
+-- whatever answer and room at exit equal the definition's: that its own do is the contract of each call. What the definitions themselves
+-- say, read a second time, stands in `Readings`. Values stand in `proofs/`, gathered in `proofs/Demands.antt`.
+use Prim.Native.Nat.{ℕ, _+_, _*_, _≤_, _<_}
 use mathlib.Core.Path.{_≡_}
-use mathlib.Core.Bool.{true, false}
-use mathlib.Core.Logic.{_↔_, _⊎_, _≢_}
-use mathlib.Core.List.{List, [], _∷_, _++_, List·Memᴰ}
-use lib.ListN.{length, getD, take, drop}
-use mathlib.Core.Option.{some}
-use Rattle.hgn.specs.Lists.{At, below}
-use Rattle.hgn.specs.Meaning.{Literal, Node, Action, Method, Domain, Order, lastOf, goalOf, networkOf}
-use Rattle.hgn.specs.State.{State, mostAtoms, emptyState, γ, byRows}
-use Rattle.hgn.specs.Network.{Waiting, step, free, enter, goalsOf, released, decomposed, mostWaiting}
-use Rattle.hgn.specs.Run.{Step, taken, stepped, startOf, costOf}
+use mathlib.Core.Logic.{_↔_, _≢_}
+use mathlib.Core.List.{List, [], _∷_, _++_}
+use lib.ListN.{length, take, drop}
+use Rattle.hgn.specs.Questions.{Refusal, Question, passed, told, FirstNo, AllYes}
+use Rattle.hgn.specs.Meaning.{Order}
+use Rattle.hgn.specs.Rows.{mostRows}
+use Rattle.hgn.specs.State.{State, mostAtoms, emptyState}
+use Rattle.hgn.specs.Network.{mostWaiting}
+use Rattle.hgn.specs.Run.{Step, Problem, problemOf, startOf, Rules, costOf}
 use Rattle.hgn.specs.Join.{Accepted, Cut, join}
-use Rattle.hgn.specs.Verdict.{Verdict, passed, refused}
-use Rattle.hgn.specs.Shop.{domain, checkShop}
-use Rattle.hgn.specs.Order.{order, checkOrder}
-use Rattle.hgn.specs.Trace.{sizeWords, stepCount, mostSteps, stepsOf, checkTrace}
-use Rattle.hgn.specs.Replay.{Replayed, refusal, replay}
-use Rattle.hgn.specs.Search.{Earlier, traceWords, Searched, noTrace, search}
-use Rattle.hgn.specs.Questions.{Question, shopAsked, orderAsked, traceAsked, asked, searchAsked, FirstNo, AllYes}
-use Rattle.hgn.specs.Definition1.{Derivation, Listed, Precedes, Unconstrained}
-use Rattle.hgn.specs.Cases.{MarkedCases}
+use Rattle.hgn.specs.Shop.{domain, checkShop, shopQuestions}
+use Rattle.hgn.specs.Order.{order, rowCount, checkOrder, orderQuestions}
+use Rattle.hgn.specs.Trace.{sizeWords, stepCount, mostSteps, stepsOf, traceQuestions, checkTrace}
+use Rattle.hgn.specs.Replay.{rulesOf, Replayed, replay, replayQuestions}
+use Rattle.hgn.specs.Search.{Earlier, mostDepth, Searched, search, searchQuestions}
+use Rattle.hgn.specs.Definition1.{Derivation}
+use Rattle.hgn.specs.Readings.{Reached}
 
--- Demand 1, of the definitions. "Where a sheet, trace or depth is malformed in any way or lent room is too short, the public call
--- gives the refusal number of document 01 for the first question it fails, writes nothing into lent memory, and stops."
--- The questions are those of document 01 as `Questions` lists them.
+-- Demand 1. "Where a sheet, trace or depth is malformed in any way or lent room is too short, the public call gives the refusal number of
+-- document 01 for the first question it fails, writes nothing into lent memory, and stops."
 
--- A check of sheets answers with the first no among these questions, and passes when there is none.
-pub record ChecksFirst (questions : List Question) (v : Verdict) : Type 0 where
-  pub refused-iff : (number place : ℕ) → FirstNo questions number place ↔ (v ≡ refused number place)
-  pub passed-iff : AllYes questions ↔ (v ≡ passed)
+-- Of a call that asks these questions and answers `a`: it refuses by the first no, and answers 0 where there is none. No question has the
+-- number 0. `Untouched` is what a refusal leaves.
+pub record AnswersFirst (questions : List Question) (a : Refusal) (Untouched : Type 0) : Type 0 where
+  pub refused-iff : (q : Refusal) → FirstNo questions q ↔ ((q .number ≢ 0) × (a ≡ q))
+  pub passed-iff : AllYes questions ↔ (a .number ≡ 0)
+  pub untouched : a .number ≢ 0 → Untouched
 
--- A replay refuses with the first no, its room unchanged, and accepts when there is none. No question has the number 0.
-pub record RefusesAtFirst (shop sheet trace room : List ℕ) : Type 0 where
-  pub refused-iff : (number place : ℕ) → FirstNo (asked shop sheet trace room) number place
-      ↔ ((number ≢ 0) × (replay shop sheet trace room ≡ refusal room number place))
-  pub accepted-iff : AllYes (asked shop sheet trace room) ↔ (replay shop sheet trace room .answer .number ≡ 0)
-  pub shop-check : ChecksFirst (shopAsked shop) (checkShop shop)
-  pub order-check : ChecksFirst (shopAsked shop ++ orderAsked shop sheet) (checkOrder shop sheet)
-  pub trace-check : ChecksFirst (shopAsked shop ++ orderAsked shop sheet ++ traceAsked trace) (checkTrace shop sheet trace)
+-- Refused: the empty state, no plan, no cost, the room unchanged.
+pub record Refuses (room : List ℕ) (c : Replayed) : Type 0 where
+  pub state : c .answer .state ≡ emptyState
+  pub count : c .answer .count ≡ 0
+  pub cost : c .answer .cost ≡ 0
+  pub unchanged : c .room ≡ room
 
-abbrev pub Demand1 : Type 0
-Demand1 = (shop sheet trace room : List ℕ) → RefusesAtFirst shop sheet trace room
+-- The checks of sheets are lent no memory to write into.
+abbrev pub ShopCheckAnswers : List ℕ → Refusal → Type 0
+ShopCheckAnswers shop a = AnswersFirst (shopQuestions shop) a (Unit {0})
 
--- The search too refuses with the first no, its room unchanged, and finds a trace when there is none.
-pub record SearchRefusesAtFirst (shop sheet : List ℕ) (depth : ℕ) (room : List ℕ) : Type 0 where
-  pub refused-iff : (number place : ℕ) → FirstNo (searchAsked shop sheet depth room) number place
-      ↔ ((number ≢ 0) × (search shop sheet depth room ≡ noTrace room number place))
-  pub found-iff : AllYes (searchAsked shop sheet depth room) ↔ (search shop sheet depth room .number ≡ 0)
+abbrev pub OrderCheckAnswers : List ℕ → List ℕ → Refusal → Type 0
+OrderCheckAnswers shop sheet a = AnswersFirst (shopQuestions shop ++ orderQuestions shop sheet) a (Unit {0})
 
-abbrev pub Demand1OfSearch : Type 0
-Demand1OfSearch = (shop sheet : List ℕ) (depth : ℕ) (room : List ℕ) → SearchRefusesAtFirst shop sheet depth room
+abbrev pub TraceCheckAnswers : List ℕ → List ℕ → List ℕ → Refusal → Type 0
+TraceCheckAnswers shop sheet trace a =
+    AnswersFirst (shopQuestions shop ++ orderQuestions shop sheet ++ traceQuestions trace) a (Unit {0})
 
--- Demand 2. "With sheets that pass and room for as many words of plan as the trace has steps, a trace is accepted if and only if
--- it is a derivation under Definition 1 of source document 000, with at most 64 goals waiting at each moment; plan, cost and
--- last state are that derivation's."
+abbrev pub ReplayAnswers : List ℕ → List ℕ → List ℕ → List ℕ → Replayed → Type 0
+ReplayAnswers shop sheet trace room c = AnswersFirst (replayQuestions shop sheet trace room) (c .answer .refusal) (Refuses room c)
+
+abbrev pub SearchAnswers : List ℕ → List ℕ → ℕ → List ℕ → Searched → Type 0
+SearchAnswers shop sheet depth room c = AnswersFirst (searchQuestions shop sheet depth room) (c .refusal) (c .room ≡ room)
+
+pub record Demand1 : Type 0 where
+  pub of-shop-check : (shop : List ℕ) (a : Refusal) → a ≡ told (checkShop shop) → ShopCheckAnswers shop a
+  pub of-order-check : (shop sheet : List ℕ) (a : Refusal) → a ≡ told (checkOrder shop sheet) → OrderCheckAnswers shop sheet a
+  pub of-trace-check : (shop sheet trace : List ℕ) (a : Refusal) → a ≡ told (checkTrace shop sheet trace)
+      → TraceCheckAnswers shop sheet trace a
+  pub of-replay : (shop sheet trace room : List ℕ) (c : Replayed) → c ≡ replay shop sheet trace room
+      → ReplayAnswers shop sheet trace room c
+  pub of-search : (shop sheet : List ℕ) (depth : ℕ) (room : List ℕ) (c : Searched) → c ≡ search shop sheet depth room
+      → SearchAnswers shop sheet depth room c
+
+-- Demand 2. "With sheets that pass and room for as many words of plan as the trace has steps, a trace is accepted if and only if it is a
+-- derivation under Definition 1 of source document 000, with at most 64 goals waiting at each moment; plan, cost and last state are that
+-- derivation's."
 
 -- The trace is a derivation of this plan, which leaves this state.
 abbrev pub Derives : List ℕ → List ℕ → List ℕ → List ℕ → State → Type 0
-Derives shop sheet trace plan last =
-    Derivation mostWaiting (domain shop) 0 (startOf (order sheet)) (goalsOf (order sheet)) (stepsOf trace) plan last
+Derives shop sheet trace plan last = Derivation (rulesOf shop) 0 (problemOf (order sheet)) (stepsOf trace) plan last
 
 -- The sheets pass and the room holds as many words as the trace has steps.
 abbrev pub InputsPass : List ℕ → List ℕ → List ℕ → List ℕ → Type 0
 InputsPass shop sheet trace room = (checkTrace shop sheet trace ≡ passed) × (stepCount trace ≤ length room)
 
 -- Accepted with this plan and this last state: the plan in the first words of the room, later words unchanged.
-pub record Accepts (shop trace room plan : List ℕ) (last : State) (r : Replayed) : Type 0 where
-  pub number : r .answer .number ≡ 0
-  pub place : r .answer .place ≡ stepCount trace
-  pub state : r .answer .state ≡ last
-  pub count : r .answer .count ≡ length plan
-  pub cost : r .answer .cost ≡ costOf (domain shop) plan
-  pub plan-words : take (length plan) (r .room) ≡ plan
-  pub later-words : drop (length plan) (r .room) ≡ drop (length plan) room
-  pub room-length : length (r .room) ≡ length room
+pub record Accepts (shop trace room plan : List ℕ) (last : State) (c : Replayed) : Type 0 where
+  pub number : c .answer .refusal .number ≡ 0
+  pub place : c .answer .refusal .place ≡ stepCount trace
+  pub state : c .answer .state ≡ last
+  pub count : c .answer .count ≡ length plan
+  pub cost : c .answer .cost ≡ costOf (domain shop) plan
+  pub plan-words : take (length plan) (c .room) ≡ plan
+  pub later-words : drop (length plan) (c .room) ≡ drop (length plan) room
+  pub room-length : length (c .room) ≡ length room
 
--- Not accepted: the empty state, no plan, no cost, the room unchanged.
-pub record Refuses (room : List ℕ) (r : Replayed) : Type 0 where
-  pub state : r .answer .state ≡ emptyState
-  pub count : r .answer .count ≡ 0
-  pub cost : r .answer .cost ≡ 0
-  pub unchanged : r .room ≡ room
-
-pub record ReplayIsDefinition1 (shop sheet trace room : List ℕ) : Type 0 where
-  pub accepts-iff : (replay shop sheet trace room .answer .number ≡ 0)
+pub record IsDefinition1 (shop sheet trace room : List ℕ) (c : Replayed) : Type 0 where
+  pub accepts-iff : (c .answer .refusal .number ≡ 0)
       ↔ (InputsPass shop sheet trace room × ((plan : List ℕ) × (last : State) × Derives shop sheet trace plan last))
   pub results : (plan : List ℕ) (last : State) → InputsPass shop sheet trace room → Derives shop sheet trace plan last
-      → Accepts shop trace room plan last (replay shop sheet trace room)
-  pub otherwise : replay shop sheet trace room .answer .number ≢ 0 → Refuses room (replay shop sheet trace room)
+      → Accepts shop trace room plan last c
 
 abbrev pub Demand2 : Type 0
-Demand2 = (shop sheet trace room : List ℕ) → ReplayIsDefinition1 shop sheet trace room
+Demand2 = (shop sheet trace room : List ℕ) (c : Replayed) → c ≡ replay shop sheet trace room → IsDefinition1 shop sheet trace room c
 
--- Demand 2, of the search. "The search gives the first of the shortest accepted traces, or 43 if none has at most D steps."
--- Document 01: "The search prefers fewer steps; among equally long traces, the first differing step decides: lower place, then
--- lower move."
+-- Demand 2, of the search. "The search gives the first of the shortest accepted traces, or 43 if none has at most D steps." Document 01:
+-- "The search prefers fewer steps; among equally long traces, the first differing step decides: lower place, then lower move."
 
 -- The steps are an accepted trace: a derivation of some plan.
 abbrev pub Solves : List ℕ → List ℕ → List Step → Type 0
-Solves shop sheet xs =
-    (plan : List ℕ) × (last : State)
-    × Derivation mostWaiting (domain shop) 0 (startOf (order sheet)) (goalsOf (order sheet)) xs plan last
+Solves shop sheet xs = (plan : List ℕ) × (last : State) × Derivation (rulesOf shop) 0 (problemOf (order sheet)) xs plan last
 
 -- The first of the shortest: accepted, none is shorter, and none of its length is earlier.
 pub record FirstOfShortest (shop sheet : List ℕ) (xs : List Step) : Type 0 where
@@ -111,190 +110,177 @@ pub record FirstOfShortest (shop sheet : List ℕ) (xs : List Step) : Type 0 whe
   pub shortest : (ys : List Step) → Solves shop sheet ys → length xs ≤ length ys
   pub earliest : (ys : List Step) → Solves shop sheet ys → length ys ≡ length xs → ¬ Earlier ys xs
 
--- Sheets that pass, D at most 32 and room for 1 + 2D words.
+-- Sheets, depth and room pass.
 abbrev pub SearchPasses : List ℕ → List ℕ → ℕ → List ℕ → Type 0
 SearchPasses shop sheet depth room =
-    (checkOrder shop sheet ≡ passed) × (depth ≤ 32) × (sizeWords + 2 * depth ≤ length room)
+    (checkOrder shop sheet ≡ passed) × (depth ≤ mostDepth) × (sizeWords + 2 * depth ≤ length room)
 
--- Found: 0 and L; the trace in the first 1 + 2L words, the rest unchanged. Those words are a trace that passes and has these steps.
-pub record Finds (shop sheet : List ℕ) (room : List ℕ) (xs : List Step) (r : Searched) : Type 0 where
-  pub number : r .number ≡ 0
-  pub place : r .place ≡ length xs
-  pub trace-words : take (sizeWords + 2 * length xs) (r .room) ≡ traceWords xs
-  pub later-words : drop (sizeWords + 2 * length xs) (r .room) ≡ drop (sizeWords + 2 * length xs) room
-  pub room-length : length (r .room) ≡ length room
-  pub trace-passes : checkTrace shop sheet (traceWords xs) ≡ passed
-  pub trace-steps : stepsOf (traceWords xs) ≡ xs
+-- Found: 0 and L; the first 1 + 2L words of the room are a trace that passes and has these steps, the rest is unchanged.
+pub record Finds (shop sheet : List ℕ) (room : List ℕ) (xs : List Step) (c : Searched) : Type 0 where
+  pub number : c .refusal .number ≡ 0
+  pub place : c .refusal .place ≡ length xs
+  pub trace-passes : checkTrace shop sheet (take (sizeWords + 2 * length xs) (c .room)) ≡ passed
+  pub trace-steps : stepsOf (take (sizeWords + 2 * length xs) (c .room)) ≡ xs
+  pub later-words : drop (sizeWords + 2 * length xs) (c .room) ≡ drop (sizeWords + 2 * length xs) room
+  pub room-length : length (c .room) ≡ length room
 
-pub record SearchFindsFirst (shop sheet : List ℕ) (depth : ℕ) (room : List ℕ) : Type 0 where
+pub record IsFirstOfShortest (shop sheet : List ℕ) (depth : ℕ) (room : List ℕ) (c : Searched) : Type 0 where
   -- It finds a trace exactly when sheets, depth and room pass and one of at most D steps is accepted,
-  pub finds-iff : (search shop sheet depth room .number ≡ 0)
+  pub finds-iff : (c .refusal .number ≡ 0)
       ↔ (SearchPasses shop sheet depth room × ((xs : List Step) × Solves shop sheet xs × (length xs ≤ depth)))
   -- and that is the first of the shortest, of which there is one only.
-  pub results : (xs : List Step) → SearchPasses shop sheet depth room → FirstOfShortest shop sheet xs → length xs ≤ depth
-      → Finds shop sheet room xs (search shop sheet depth room)
-  pub exists : search shop sheet depth room .number ≡ 0
-      → (xs : List Step) × FirstOfShortest shop sheet xs × (length xs ≤ depth)
+  pub results : c .refusal .number ≡ 0
+      → (xs : List Step) × FirstOfShortest shop sheet xs × (length xs ≤ depth) × Finds shop sheet room xs c
   pub one-only : (xs ys : List Step) → FirstOfShortest shop sheet xs → FirstOfShortest shop sheet ys → xs ≡ ys
-  -- 43, the room unchanged, exactly when they pass and none of at most D steps is accepted.
-  pub none-iff : (search shop sheet depth room ≡ noTrace room 43 0)
+  -- 43 exactly when they pass and none of at most D steps is accepted.
+  pub none-iff : (c .refusal .number ≡ 43)
       ↔ (SearchPasses shop sheet depth room × ((xs : List Step) → length xs ≤ depth → ¬ Solves shop sheet xs))
 
 abbrev pub Demand2OfSearch : Type 0
-Demand2OfSearch = (shop sheet : List ℕ) (depth : ℕ) (room : List ℕ) → SearchFindsFirst shop sheet depth room
+Demand2OfSearch = (shop sheet : List ℕ) (depth : ℕ) (room : List ℕ) (c : Searched) → c ≡ search shop sheet depth room
+    → IsFirstOfShortest shop sheet depth room c
+
+-- The two calls together: a replay with room for L words of plan accepts the 1 + 2L words that a search leaves; and after 43 no replay
+-- accepts a trace of at most D steps.
+pub record SearchAndReplay (shop sheet : List ℕ) (depth : ℕ) (room : List ℕ) (c : Searched) : Type 0 where
+  pub found-is-accepted : c .refusal .number ≡ 0 → (plan : List ℕ) (e : Replayed)
+      → e ≡ replay shop sheet (take (sizeWords + 2 * c .refusal .place) (c .room)) plan → c .refusal .place ≤ length plan
+      → e .answer .refusal .number ≡ 0
+  pub none-is-accepted : c .refusal .number ≡ 43 → (trace plan : List ℕ) (e : Replayed) → e ≡ replay shop sheet trace plan
+      → stepCount trace ≤ depth → e .answer .refusal .number ≢ 0
+
+abbrev pub SearchAgreesWithReplay : Type 0
+SearchAgreesWithReplay = (shop sheet : List ℕ) (depth : ℕ) (room : List ℕ) (c : Searched) → c ≡ search shop sheet depth room
+    → SearchAndReplay shop sheet depth room c
 
 -- Demand 3. "For any two orders that pass with one shop sheet, and for every trace of at most 4,096 steps, whatever its moves and
 -- places: it is accepted on their join (every goal of the first before every goal of the second) exactly when there is a cut such
 -- that its front is accepted on the first order, with the second order's goals counted among the 64 throughout, and its back is
 -- accepted on the second from the state that the front leaves. No trace has two such cuts. With such a cut, the plan on the join
 -- is the front's followed by the back's, the cost is the sum of the two, and the last state is the back's."
--- It is stated of every list of steps, whatever its length.
+-- It is stated of every list of steps, whatever its length, and under any rules with the limit 64, so of `rulesOf shop`. That "accepted" is
+-- then a derivation under Definition 1 is `AcceptedIsDerivation` of `Readings`.
 
 -- The steps are accepted on the join of the two orders.
-abbrev pub OnJoin : Domain → Order → Order → List Step → List ℕ → State → Type 0
-OnJoin d a b xs plan last = Accepted mostWaiting d (startOf (join a b)) (goalsOf (join a b)) xs plan last
+abbrev pub OnJoin : Rules → Order → Order → List Step → List ℕ → State → Type 0
+OnJoin r a b xs plan last = Accepted r (problemOf (join a b)) xs plan last
 
-pub record JoinRule (d : Domain) (a b : Order) (xs : List Step) : Type 0 where
-  pub accepted-iff : ((plan : List ℕ) × (last : State) × OnJoin d a b xs plan last) ↔ ((c : ℕ) × Cut d a b xs c)
-  pub one-cut : (c e : ℕ) → Cut d a b xs c → Cut d a b xs e → c ≡ e
-  pub results : (c : ℕ) (cut : Cut d a b xs c) (plan : List ℕ) (last : State)
-      → OnJoin d a b xs plan last ↔ ((plan ≡ cut .frontPlan ++ cut .backPlan) × (last ≡ cut .last))
-  pub cost : (c : ℕ) (cut : Cut d a b xs c) (plan : List ℕ) (last : State)
-      → OnJoin d a b xs plan last → costOf d plan ≡ costOf d (cut .frontPlan) + costOf d (cut .backPlan)
+pub record JoinRule (r : Rules) (a b : Order) (xs : List Step) : Type 0 where
+  pub accepted-iff : ((plan : List ℕ) × (last : State) × OnJoin r a b xs plan last) ↔ ((c : ℕ) × Cut r a b xs c)
+  pub one-cut : (c e : ℕ) → Cut r a b xs c → Cut r a b xs e → c ≡ e
+  pub results : (c : ℕ) (cut : Cut r a b xs c) (plan : List ℕ) (last : State)
+      → OnJoin r a b xs plan last ↔ ((plan ≡ cut .frontPlan ++ cut .backPlan) × (last ≡ cut .last))
+  pub cost : (c : ℕ) (cut : Cut r a b xs c) (plan : List ℕ) (last : State) → OnJoin r a b xs plan last
+      → costOf (r .domain) plan ≡ costOf (r .domain) (cut .frontPlan) + costOf (r .domain) (cut .backPlan)
   -- "So where the two orders have more than 64 goals together, no trace is accepted on the join and no cut will do."
   pub too-many : mostWaiting < length (a .goals) + length (b .goals)
-      → ((plan : List ℕ) (last : State) → ¬ OnJoin d a b xs plan last) × ((c : ℕ) → ¬ Cut d a b xs c)
+      → ((plan : List ℕ) (last : State) → ¬ OnJoin r a b xs plan last) × ((c : ℕ) → ¬ Cut r a b xs c)
 
-abbrev pub Demand3 : Type 0
+abbrev pub Demand3 : Type 1
 Demand3 = (shop first second : List ℕ) → checkOrder shop first ≡ passed → checkOrder shop second ≡ passed
-    → (xs : List Step) → JoinRule (domain shop) (order first) (order second) xs
+    → (r : Rules) → r .limit ≡ mostWaiting → (xs : List Step) → JoinRule r (order first) (order second) xs
 
--- "Accepted" means in it what it means in demand 2: a derivation under Definition 1, whatever the limit, the first state and the
--- first list.
-abbrev pub AcceptedIsDerivation : Type 0
-AcceptedIsDerivation = (shop : List ℕ) → checkShop shop ≡ passed
-    → (limit : ℕ) (s : State) (w : List Waiting) (xs : List Step) (plan : List ℕ) (last : State)
-    → Accepted limit (domain shop) s w xs plan last ↔ Derivation limit (domain shop) 0 s w xs plan last
+-- Demand 3 again, of three replays: on the join with the whole trace, on the first order with the front, on the second with the back. A
+-- replay takes sheets, so the join is a sheet that means it, and the second order from a state is a sheet with its goals and that start.
+-- Where such a sheet would be too long there is none (`CallsAreThere` says where there surely is one): demand 3 as stated above, of orders
+-- and states, asks for no sheet, and `accepted-cut` for none of the back.
 
--- "every goal of the first before every goal of the second": in the join's list the first's goals have the first places.
-abbrev pub FirstBeforeSecond : Type 0
-FirstBeforeSecond = (a b : Order) (i j : ℕ) (p q : Waiting) → At (goalsOf (join a b)) i p → At (goalsOf (join a b)) j q
-    → i < length (a .goals) → length (a .goals) ≤ j → Listed p q
+-- A replay of sheets that pass, with room enough.
+pub record Call (shop sheet trace : List ℕ) : Type 0 where
+  pub room : List ℕ
+  pub result : Replayed
+  pub inputs : InputsPass shop sheet trace room
+  pub called : result ≡ replay shop sheet trace room
 
--- Document 01's 'after' and 000's partial order. On every network that a run reaches from checked sheets or their joins, whatever
--- the limit and the first state, a goal is free by the listed pairs exactly when it is unconstrained by their transitive closure,
--- and that closure is a strict partial order.
+-- It accepts, and this is then the plan: the first words of the room at exit.
+abbrev pub Accepting : {shop sheet trace : List ℕ} → Call shop sheet trace → Type 0
+Accepting k = k .result .answer .refusal .number ≡ 0
 
--- The order of a sheet that passes with this shop sheet, or a join of such orders.
-pub data FromSheets (shop : List ℕ) : Order → Type 0 where
-  by-sheet : (sheet : List ℕ) → checkOrder shop sheet ≡ passed → FromSheets shop (order sheet)
-  by-join : {a b : Order} → FromSheets shop a → FromSheets shop b → FromSheets shop (join a b)
+abbrev pub planIn : {shop sheet trace : List ℕ} → Call shop sheet trace → List ℕ
+planIn k = take (k .result .answer .count) (k .result .room)
 
--- A run of the order's goals from the first state `s₀` reaches step `n`, this state and this network.
-pub data Reached (limit : ℕ) (d : Domain) (s₀ : State) (o : Order) : ℕ → State → List Waiting → Type 0 where
-  first : Reached limit d s₀ o 0 s₀ (goalsOf o)
-  next : {n : ℕ} {s s′ : State} {w w′ : List Waiting} {done : List ℕ} (x : Step)
-      → Reached limit d s₀ o n s w → stepped limit d n s w x ≡ taken done s′ w′ → Reached limit d s₀ o (suc n) s′ w′
+-- The replay on the join, with the whole trace.
+pub record Whole (shop first second trace : List ℕ) : Type 0 where
+  pub joined : List ℕ
+  pub means : order joined ≡ join (order first) (order second)
+  pub call : Call shop joined trace
 
-pub record OrderedNetwork (w : List Waiting) : Type 0 where
-  pub free-iff : (t : Waiting) → List·Memᴰ t w → (free w t ≡ true) ↔ Unconstrained w t
-  pub irreflexive : (t : Waiting) → ¬ Precedes w t t
+-- The replays of the two parts at cut `c`: the front is the first `c` steps, the back the others. The back's order has the second's goals,
+-- and starts from the state that an accepted front leaves.
+pub record Parts (shop first second trace : List ℕ) (c : ℕ) : Type 0 where
+  pub inside : c ≤ stepCount trace
+  pub frontTrace : List ℕ
+  pub frontSteps : stepsOf frontTrace ≡ take c (stepsOf trace)
+  pub front : Call shop first frontTrace
+  pub backOrder : List ℕ
+  pub backGoals : order backOrder .goals ≡ order second .goals
+  pub backStart : Accepting front → startOf (order backOrder) ≡ front .result .answer .state
+  pub backTrace : List ℕ
+  pub backSteps : stepsOf backTrace ≡ drop c (stepsOf trace)
+  pub back : Call shop backOrder backTrace
 
-abbrev pub NetworksAreOrdered : Type 0
-NetworksAreOrdered = (shop : List ℕ) (o : Order) → FromSheets shop o → (limit n : ℕ) (s₀ s : State) (w : List Waiting)
-    → Reached limit (domain shop) s₀ o n s w → OrderedNetwork w
+-- In the run of these steps from a problem, those waiting and `others` more are within the limit at its start and after every step of it.
+abbrev pub Counted : ℕ → Rules → Problem → List Step → Type 0
+Counted others r P xs = (i : ℕ) (Q : Problem) → Reached r P (take i xs) Q → length (Q .waiting) + others ≤ r .limit
 
--- 000's operations on such a network. Goal release: "T′ = T \ {t} and ≺′ is the restriction of ≺ to T′". Method application:
--- "T′ = T ∪ T_m and ≺′ = ≺ ∪ ≺_m ∪ {(t_m, t) | t_m ∈ T_m}" (000 prints m ∈ T_m), here of the listed pairs, whose closure is the
--- order.
+-- Such a cut: its front is accepted, with the second order's goals counted among the 64 throughout, and its back is accepted. "at most
+-- 64 - H wait in the front's run on the first, at its start and after every step of it".
+pub record BothAccept {shop first second trace : List ℕ} {c : ℕ} (p : Parts shop first second trace c) : Type 0 where
+  pub front : Accepting (p .front)
+  pub counted : Counted (length (order second .goals)) (rulesOf shop) (problemOf (order first)) (stepsOf (p .frontTrace))
+  pub back : Accepting (p .back)
 
--- The nodes T_m of a method used at goal `t` in step `n`.
-abbrev pub entering : ℕ → Waiting → Method → List Waiting
-entering n t m = enter (step n) (some (t .name)) 0 (networkOf m)
+-- What the replay on the join then answers and leaves in its room.
+pub record OneAfterOther {shop first second trace : List ℕ} {c : ℕ}
+    (k : Whole shop first second trace) (p : Parts shop first second trace c) : Type 0 where
+  pub number : k .call .result .answer .refusal .number ≡ 0
+  pub place : k .call .result .answer .refusal .place ≡ stepCount trace
+  pub plan : planIn (k .call) ≡ planIn (p .front) ++ planIn (p .back)
+  pub count : k .call .result .answer .count ≡ p .front .result .answer .count + p .back .result .answer .count
+  pub cost : k .call .result .answer .cost ≡ p .front .result .answer .cost + p .back .result .answer .cost
+  pub state : k .call .result .answer .state ≡ p .back .result .answer .state
 
--- A listed pair between two goals of the list.
-abbrev pub Pair : List Waiting → Waiting → Waiting → Type 0
-Pair w a b = List·Memᴰ a w × List·Memᴰ b w × Listed a b
+-- The cut of these sheets. It asks for no replay of the parts.
+abbrev pub CutAt : List ℕ → List ℕ → List ℕ → List ℕ → ℕ → Type 0
+CutAt shop first second trace c = Cut (rulesOf shop) (order first) (order second) (stepsOf trace) c
 
-pub record Operations (d : Domain) (n : ℕ) (w : List Waiting) : Type 0 where
-  pub release-nodes : (p : ℕ) (t a : Waiting) → At w p t → List·Memᴰ a (released w p) ↔ (List·Memᴰ a w × (a ≢ t))
-  pub release-order : (p : ℕ) (t a b : Waiting) → At w p t → Unconstrained w t → List·Memᴰ a (released w p) → List·Memᴰ b (released w p)
-      → Precedes (released w p) a b ↔ Precedes w a b
-  pub method-nodes : (p : ℕ) (t a : Waiting) (m : Method) → At w p t → List·Memᴰ m (d .methods)
-      → List·Memᴰ a (decomposed w p n (networkOf m)) ↔ (List·Memᴰ a w ⊎ List·Memᴰ a (entering n t m))
-  pub method-pairs : (p : ℕ) (t a b : Waiting) (m : Method) → At w p t → List·Memᴰ m (d .methods)
-      → Pair (decomposed w p n (networkOf m)) a b
-      ↔ (Pair w a b
-      ⊎ ((List·Memᴰ a (entering n t m) × List·Memᴰ b (entering n t m) × List·Memᴰ (a .name .number) (b .after))
-      ⊎ (List·Memᴰ a (entering n t m) × (b ≡ t))))
+pub record JoinOfReplays (shop first second trace : List ℕ) : Type 0 where
+  -- Where replays of the parts are made at every cut.
+  pub accepted-iff : (k : Whole shop first second trace) (parts : (c : ℕ) → c ≤ stepCount trace → Parts shop first second trace c)
+      → Accepting (k .call) ↔ ((c : ℕ) × (h : c ≤ stepCount trace) × BothAccept (parts c h))
+  pub one-cut : (c e : ℕ) (p : Parts shop first second trace c) (q : Parts shop first second trace e)
+      → BothAccept p → BothAccept q → c ≡ e
+  pub results : (k : Whole shop first second trace) (c : ℕ) (p : Parts shop first second trace c) → BothAccept p → OneAfterOther k p
+  -- The same by the cut of orders and states.
+  pub cut-iff : (c : ℕ) (p : Parts shop first second trace c) → BothAccept p ↔ CutAt shop first second trace c
+  pub accepted-cut : (k : Whole shop first second trace) → Accepting (k .call) ↔ ((c : ℕ) × CutAt shop first second trace c)
+  -- "So where the two orders have more than 64 goals together, no trace is accepted on the join and no cut will do."
+  pub too-many : mostWaiting < length (order first .goals) + length (order second .goals)
+      → ((joined room : List ℕ) (e : Replayed) → order joined ≡ join (order first) (order second)
+      → e ≡ replay shop joined trace room → e .answer .refusal .number ≢ 0)
+      × ((c : ℕ) (p : Parts shop first second trace c) → ¬ BothAccept p)
 
-abbrev pub OperationsAre000s : Type 0
-OperationsAre000s = (shop : List ℕ) (o : Order) → FromSheets shop o → (limit n : ℕ) (s₀ s : State) (w : List Waiting)
-    → Reached limit (domain shop) s₀ o n s w → Operations (domain shop) n w
+-- These replays can be made: the sheets and traces that they take are there, where the limits on rows and goals surely leave room. The
+-- join has no more than the first's rows, the second's, and one for each goal of the first in each goal of the second; the order of
+-- the back no more than the second's rows and one for each atom. Fewer may be enough.
+pub record CallsAreThere (shop first second trace : List ℕ) : Type 0 where
+  pub whole : length (order first .goals) + length (order second .goals) ≤ mostWaiting
+      → rowCount first + rowCount second + length (order second .goals) * length (order first .goals) ≤ mostRows
+      → Whole shop first second trace
+  pub parts : mostAtoms + rowCount second ≤ mostRows → (c : ℕ) → c ≤ stepCount trace → Parts shop first second trace c
 
--- 000: "By convention, network(m) has a last node t_g containing goal(m) to ensure that m accomplishes its own goal." Document 01:
--- "it comes after all the others by rule".
+-- Of any two orders and any trace that pass with the shop sheet.
+pub record Demand3OfReplays : Type 0 where
+  pub join-of-replays : (shop first second trace : List ℕ)
+      → checkTrace shop first trace ≡ passed → checkTrace shop second trace ≡ passed → JoinOfReplays shop first second trace
+  pub calls-are-there : (shop first second trace : List ℕ)
+      → checkTrace shop first trace ≡ passed → checkTrace shop second trace ≡ passed → CallsAreThere shop first second trace
 
-pub record EndsInGoal (m : Method) : Type 0 where
-  pub goal : lastOf (networkOf m) .formula ≡ goalOf m ∷ []
-  pub after-others : lastOf (networkOf m) .after ≡ below (length (networkOf m) - 1)
-  -- Its other nodes are as listed.
-  pub others : (init : List Node) (last : Node) → m .nodes ≡ init ++ (last ∷ [])
-      → networkOf m ≡ init ++ (record { after = below (length init); formula = last .formula } ∷ [])
-
-abbrev pub MethodsEndInGoals : Type 0
-MethodsEndInGoals = (shop : List ℕ) → checkShop shop ≡ passed → (m : Method) → List·Memᴰ m (domain shop .methods) → EndsInGoal m
-
--- 000: "γ(s, a) = (s - eff⁻(a)) ∪ eff⁺(a)". An action's effect by rows, one after another, is that set, atom by atom.
-
--- The atom is in the state.
-abbrev pub In : State → ℕ → Type 0
-In s p = getD s p false ≡ true
-
--- The set (s - eff⁻) ∪ eff⁺ has the atom.
-abbrev pub InEffect : State → List Literal → ℕ → Type 0
-InEffect s effects p =
-    (In s p × (¬ List·Memᴰ (record { sign = false; atom = p }) effects)) ⊎ List·Memᴰ (record { sign = true; atom = p }) effects
-
-pub record Effect (s : State) (effects : List Literal) : Type 0 where
-  pub by-sets : (p : ℕ) → p < mostAtoms → In (γ s effects) p ↔ InEffect s effects p
-  pub by-rows : (p : ℕ) → p < mostAtoms → In (byRows s effects) p ↔ InEffect s effects p
-  pub same : byRows s effects ≡ γ s effects
-
-abbrev pub EffectsAreGamma : Type 0
-EffectsAreGamma = (shop : List ℕ) → checkShop shop ≡ passed → (a : Action) → List·Memᴰ a (domain shop .actions)
-    → (s : State) → length s ≡ mostAtoms → Effect s (a .effects)
-
--- Document 01: "A state is a set of atoms. At first the state is the atoms of the order's 12 rows". Every state that a run reaches from
--- a state of 256 atoms is one, so that the effects above are those of its actions.
-
-pub record StatesAreSets (o : Order) : Type 0 where
-  pub at-first : (p : ℕ) → p < mostAtoms → In (startOf o) p ↔ List·Memᴰ p (o .start)
-  pub first-whole : length (startOf o) ≡ mostAtoms
-  pub whole : (limit n : ℕ) (d : Domain) (s₀ s : State) (w : List Waiting) → Reached limit d s₀ o n s w
-      → length s₀ ≡ mostAtoms → length s ≡ mostAtoms
-
-abbrev pub StatesAreSetsOfAtoms : Type 0
-StatesAreSetsOfAtoms = (o : Order) → StatesAreSets o
-
--- Document 01: the cost is "at most 4,096 × 65,535 = 268,431,360".
-abbrev pub CostsAreBounded : Type 0
-CostsAreBounded = (shop : List ℕ) → checkShop shop ≡ passed → (plan : List ℕ) → length plan ≤ mostSteps
-    → costOf (domain shop) plan ≤ 268_431_360
-
--- All of it.
-pub record Proved : Type 0 where
-  pub marked-cases : MarkedCases
+-- All three.
+pub record Promised : Type 1 where
   pub demand-1 : Demand1
-  pub demand-1-of-search : Demand1OfSearch
   pub demand-2 : Demand2
   pub demand-2-of-search : Demand2OfSearch
+  pub search-agrees-with-replay : SearchAgreesWithReplay
   pub demand-3 : Demand3
-  pub accepted-is-derivation : AcceptedIsDerivation
-  pub first-before-second : FirstBeforeSecond
-  pub networks-are-ordered : NetworksAreOrdered
-  pub operations-are-000s : OperationsAre000s
-  pub methods-end-in-goals : MethodsEndInGoals
-  pub effects-are-gamma : EffectsAreGamma
-  pub states-are-sets : StatesAreSetsOfAtoms
-  pub costs-are-bounded : CostsAreBounded
+  pub demand-3-of-replays : Demand3OfReplays

@@ -5,10 +5,9 @@ use mathlib.Core.Path.{_≡_}
 use mathlib.Core.List.{List, _++_, map}
 use lib.ListN.{length, take, drop}
 use Rattle.hgn.specs.Lists.{below}
-use Rattle.hgn.specs.Meaning.{Domain, Order, Node}
+use Rattle.hgn.specs.Meaning.{Order, Node}
 use Rattle.hgn.specs.State.{State}
-use Rattle.hgn.specs.Network.{Waiting, goalsOf, mostWaiting}
-use Rattle.hgn.specs.Run.{Step, run, accepted, startOf}
+use Rattle.hgn.specs.Run.{Step, Problem, problemFrom, problemOf, Rules, limited, Deed, planOf, run, accepted}
 
 -- The 11 rows of a goal of the second order: 0 to `g` less 1 of the first, then its own raised by `g`.
 unfoldable pub raised : ℕ → Node → Node
@@ -19,19 +18,21 @@ raised g n = record { after = below g ++ map (λ k. g + k) (n .after); formula =
 unfoldable pub join : Order → Order → Order
 join a b = record { start = a .start; goals = a .goals ++ map (raised (length (a .goals))) (b .goals) }
 
--- The steps are accepted from a state and a waiting list, with at most `limit` waiting at the start and after every step,
--- and leave this plan and this last state.
-pub record Accepted (limit : ℕ) (d : Domain) (s : State) (w : List Waiting) (xs : List Step) (plan : List ℕ) (last : State) : Type 0 where
-  pub within : length w ≤ limit
-  pub runs : run limit d 0 s w xs ≡ accepted plan last
+-- The steps are accepted from a problem, with at most the rules' limit waiting at the start and after every step, and leave this plan
+-- and this last state.
+pub record Accepted (r : Rules) (P : Problem) (xs : List Step) (plan : List ℕ) (last : State) : Type 0 where
+  pub within : length (P .waiting) ≤ r .limit
+  pub deeds : List Deed
+  pub runs : run r 0 P xs ≡ accepted deeds last
+  pub plan-is : plan ≡ planOf deeds
 
--- A cut: the first `c` steps, the front, are accepted on the first order with the second's goals counted among the 64 throughout;
--- the others, the back, on the second order from the state that the front leaves.
-pub record Cut (d : Domain) (a b : Order) (xs : List Step) (c : ℕ) : Type 0 where
+-- A cut: the first `c` steps, the front, are accepted on the first order with the second's goals counted among the 64, the rules' limit,
+-- throughout; the others, the back, on the second order from the state that the front leaves.
+pub record Cut (r : Rules) (a b : Order) (xs : List Step) (c : ℕ) : Type 0 where
   pub inside : c ≤ length xs
   pub frontPlan : List ℕ
   pub between : State
-  pub front : Accepted (mostWaiting - length (b .goals)) d (startOf a) (goalsOf a) (take c xs) frontPlan between
+  pub front : Accepted (limited (r .limit - length (b .goals)) r) (problemOf a) (take c xs) frontPlan between
   pub backPlan : List ℕ
   pub last : State
-  pub back : Accepted mostWaiting d between (goalsOf b) (drop c xs) backPlan last
+  pub back : Accepted r (problemFrom between b) (drop c xs) backPlan last

@@ -1,6 +1,7 @@
 -- The definitions, in document 01's order, by its sections.
--- What all of them use.
+-- What all of them use: lists, and questions with their first no.
 pub mod Lists
+pub mod Questions
 -- "The three sheets": their rows, and what they mean.
 pub mod Tag
 pub mod Rows
@@ -11,16 +12,14 @@ pub mod Network
 pub mod Run
 pub mod Join
 -- "Questions, and the number when the answer is no", with the sizes of each sheet from "The three sheets".
-pub mod Verdict
 pub mod Shop
 pub mod Order
 pub mod Trace
 pub mod Replay
 pub mod Search
--- The same questions as lists, which demand 1 is about.
-pub mod Questions
 -- Source document 000, and the statements that are proved.
 pub mod Definition1
+pub mod Readings
 pub mod Demands
 -- "One core of sixty centimetres": the marked cases.
 pub mod Cases

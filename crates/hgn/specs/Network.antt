@@ -77,7 +77,7 @@ goalAt w p = getD w p noGoal
 unfoldable pub released : List Waiting → ℕ → List Waiting
 released w p = take p w ++ drop (suc p) w
 
--- gn ∘_t m of 000: the nodes of a method used at step `n` enter directly before the goal at place `p`, in listed order,
--- with their own afters, and that goal comes after each of them. The goal itself stays.
-unfoldable pub decomposed : List Waiting → ℕ → ℕ → List Node → List Waiting
-decomposed w p n nodes = take p w ++ (enter (step n) (some (goalAt w p .name)) 0 nodes ++ drop p w)
+-- gn ∘_t m of 000: a method's nodes, of this origin, enter directly before the goal at place `p`, in listed order, with their own
+-- afters, and that goal comes after each of them. The goal itself stays.
+unfoldable pub decomposed : List Waiting → ℕ → Origin → List Node → List Waiting
+decomposed w p origin nodes = take p w ++ (enter origin (some (goalAt w p .name)) 0 nodes ++ drop p w)

@@ -1,14 +1,14 @@
 -- The order sheet: its sizes, its meaning, and the questions 11 to 18. Document 01, "The three sheets" and "Questions".
 use Prim.Native.Nat.{ℕ, _+_, _*_}
 use mathlib.Core.Bool.{Bool, _&&_}
-use mathlib.Core.List.{List}
+use mathlib.Core.List.{List, [], _∷_, _++_}
 use lib.Dec.{eqb, leb}
 use lib.ListN.{length}
-use Rattle.hgn.specs.Rows.{Row, word, rowsOf, mostRows}
+use Rattle.hgn.specs.Questions.{Question, _asks_, Verdict, firstNo}
+use Rattle.hgn.specs.Rows.{Row, word, rowsOf, mostRows, rowQuestions, positionAfter}
 use Rattle.hgn.specs.Tag.{orderFollow, opening, mayEnd}
 use Rattle.hgn.specs.Meaning.{Order, orderOf}
 use Rattle.hgn.specs.Network.{mostWaiting}
-use Rattle.hgn.specs.Verdict.{Verdict, passed, ask, andThen, rowQuestions, positionAfter}
 use Rattle.hgn.specs.Shop
 
 -- The sizes F, G and N.
@@ -36,16 +36,18 @@ unfoldable pub sizesInRange : List ℕ → List ℕ → Bool
 sizesInRange shop sheet =
     eqb (atomCount sheet) (Shop.atomCount shop) && leb (goalCount sheet) mostWaiting && leb (rowCount sheet) mostRows
 
-unfoldable pub orderQuestions : List ℕ → List ℕ → Verdict
+-- "Order: the same with at least 3 words? 11. F the shop's, G and N in range? 12. Length 3 + 2N? 13. Rows 14, 15, 16 (at the row).
+-- May it end here? 17. G nodes? 18."
+unfoldable pub orderQuestions : List ℕ → List ℕ → List Question
 orderQuestions shop sheet =
-    ask (leb sizeWords (length sheet)) 11 0
-    (ask (sizesInRange shop sheet) 12 0
-    (ask (eqb (length sheet) (sizeWords + 2 * rowCount sheet)) 13 0
-    (andThen (rowQuestions orderFollow 14 (atomCount sheet) 0 opening (orderRows sheet))
-    (ask (mayEnd (positionAfter opening (orderRows sheet) .context)) 17 0
-    (ask (eqb (length (order sheet .goals)) (goalCount sheet)) 18 0
-    passed)))))
+    11 asks leb sizeWords (length sheet)
+    ∷ 12 asks sizesInRange shop sheet
+    ∷ 13 asks eqb (length sheet) (sizeWords + 2 * rowCount sheet)
+    ∷ rowQuestions orderFollow 14 (atomCount sheet) 0 opening (orderRows sheet)
+    ++ (17 asks mayEnd (positionAfter opening (orderRows sheet) .context)
+    ∷ 18 asks eqb (length (order sheet .goals)) (goalCount sheet)
+    ∷ [])
 
--- Every check asks about all its sheets, in order.
+-- "Every call asks about all its sheets, in this order, and stops at the first no."
 unfoldable pub checkOrder : List ℕ → List ℕ → Verdict
-checkOrder shop sheet = andThen (Shop.checkShop shop) (orderQuestions shop sheet)
+checkOrder shop sheet = firstNo (Shop.shopQuestions shop ++ orderQuestions shop sheet)

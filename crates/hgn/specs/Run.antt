@@ -1,13 +1,33 @@
--- Moves, one step as the questions 25 to 32 in their order, and a run with question 33.
--- Document 01, "How a derivation runs" and "Questions".
+-- Problems, the rules of a run, one step with the questions 25 to 32, and a run with question 33.
+-- Document 01, "How a derivation runs" and "Questions"; source document 000, "Solutions to HGN Planning Problems".
 use Prim.Native.Nat.{ℕ, suc, _+_, _-_}
+use mathlib.Core.Path.{_≡_}
 use mathlib.Core.Bool.{Bool, true, false, cond, _&&_}
+use mathlib.Core.Logic.{_↔_}
 use mathlib.Core.List.{List, [], _∷_, _++_}
 use lib.Dec.{eqb, leb, ltb}
 use lib.ListN.{length, getD}
-use Rattle.hgn.specs.Meaning.{Action, Method, Domain, Order, goalOf, networkOf}
-use Rattle.hgn.specs.State.{State, emptyState, assign, γ, allHold, formulaHolds, relevant}
-use Rattle.hgn.specs.Network.{Waiting, free, anyFree, goalAt, released, decomposed}
+use Rattle.hgn.specs.Questions.{Refusal, Question, _asks_, placed, allAt, passed, firstNo}
+use Rattle.hgn.specs.Questions as Questions
+use Rattle.hgn.specs.Meaning.{Formula, Action, Method, Domain, Order, goalOf, networkOf}
+use Rattle.hgn.specs.State.{State, emptyState, assign, γ, allHold, formulaHolds, relevant, Relevant}
+use Rattle.hgn.specs.Network.{Waiting, step, free, anyFree, goalsOf, goalAt, released, decomposed}
+
+-- A planning problem of 000 less its domain: the state, and the goal network as the waiting list.
+pub record Problem : Type 0 where
+  pub state : State
+  pub waiting : List Waiting
+
+-- At first the state is the atoms of the order's 12 rows.
+unfoldable pub startOf : Order → State
+startOf o = assign true (o .start) emptyState
+
+-- An order's goals from a state, and from the order's own first state.
+abbrev pub problemFrom : State → Order → Problem
+problemFrom s o = record { state = s; waiting = goalsOf o }
+
+abbrev pub problemOf : Order → Problem
+problemOf o = problemFrom (startOf o) o
 
 pub record Step : Type 0 where
   pub move : ℕ
@@ -45,70 +65,152 @@ actionAt d n = getD (d .actions) (n - 1) noAction
 abbrev pub methodAt : Domain → ℕ → Method
 methodAt d m = getD (d .methods) m noMethod
 
--- What a step comes to: the number of the first question that fails, or the actions done, the next state and the next list.
+unfoldable pub known : Move → Bool
+known release = true
+known (act k) = true
+known (use-method m) = true
+known unknown = false
+
+-- The rules under which a run goes: the domain, the most goals that may wait, and when an action may be taken for a goal and a method
+-- used at it, each as the test that a step asks and as the proposition that Definition 1 asks.
+pub record Rules : Type 1 where
+  pub domain : Domain
+  pub limit : ℕ
+  pub mayAct : Action → Formula → Bool
+  pub MayAct : Action → Formula → Type 0
+  pub mayUse : Method → Formula → Bool
+  pub MayUse : Method → Formula → Type 0
+
+-- The tests of such rules decide their propositions.
+pub record Decided (r : Rules) : Type 0 where
+  pub act-iff : (a : Action) (g : Formula) → (r .mayAct a g ≡ true) ↔ r .MayAct a g
+  pub use-iff : (m : Method) (g : Formula) → (r .mayUse m g ≡ true) ↔ r .MayUse m g
+
+-- The same rules with another limit.
+abbrev pub limited : ℕ → Rules → Rules
+limited limit r = record {
+  domain = r .domain;
+  limit = limit;
+  mayAct = r .mayAct;
+  MayAct = r .MayAct;
+  mayUse = r .mayUse;
+  MayUse = r .MayUse;
+}
+
+-- The rules of 000: an action must be relevant by its effects, a method by its goal.
+abbrev pub strict : ℕ → Domain → Rules
+strict limit d = record {
+  domain = d;
+  limit = limit;
+  mayAct = λ a g. relevant (a .effects) g;
+  MayAct = λ a g. Relevant (a .effects) g;
+  mayUse = λ m g. relevant (goalOf m) g;
+  MayUse = λ m g. Relevant (goalOf m) g;
+}
+
+-- What a move at place `p`, in step `n`, makes of a problem. "State becomes (state less made false) with made true; the waiting list is
+-- unchanged", of an action; of a method, "its nodes enter directly before that goal".
+unfoldable pub moved : Domain → ℕ → Problem → ℕ → Move → Problem
+moved d n P p release = record { state = P .state; waiting = released (P .waiting) p }
+moved d n P p (act k) = record { state = γ (P .state) (actionAt d k .effects); waiting = P .waiting }
+moved d n P p (use-method m) = record { state = P .state; waiting = decomposed (P .waiting) p (step n) (networkOf (methodAt d m)) }
+moved d n P p unknown = P
+
+-- A move's own questions, at the goal of place `p`. "For a release, does it hold? 29. For the others: needs hold? 30. Relevant? 31. For a
+-- method, at most 64 waiting afterwards? 32."
+unfoldable pub ownQuestions : Rules → ℕ → Problem → ℕ → Move → List Question
+ownQuestions r n P p release = 29 asks formulaHolds (P .state) (goalAt (P .waiting) p .formula) ∷ []
+ownQuestions r n P p (act k) =
+    30 asks allHold (P .state) (actionAt (r .domain) k .needs)
+    ∷ 31 asks r .mayAct (actionAt (r .domain) k) (goalAt (P .waiting) p .formula)
+    ∷ []
+ownQuestions r n P p (use-method m) =
+    30 asks allHold (P .state) (methodAt (r .domain) m .needs)
+    ∷ 31 asks r .mayUse (methodAt (r .domain) m) (goalAt (P .waiting) p .formula)
+    ∷ 32 asks leb (length (moved (r .domain) n P p (use-method m) .waiting)) (r .limit)
+    ∷ []
+ownQuestions r n P p unknown = []
+
+-- "place below the number waiting? 25. Move known? 26. Is any waiting goal free? 27. Is this goal free? 28." Then the move's own.
+unfoldable pub stepQuestions : Rules → ℕ → Problem → Step → List Question
+stepQuestions r n P x =
+    25 asks ltb (x .place) (length (P .waiting))
+    ∷ 26 asks known (moveOf (r .domain) (x .move))
+    ∷ 27 asks anyFree (P .waiting)
+    ∷ 28 asks free (P .waiting) (goalAt (P .waiting) (x .place))
+    ∷ ownQuestions r n P (x .place) (moveOf (r .domain) (x .move))
+
+-- What a step that is taken does.
+pub data Deed : Type 0 where
+  releases : List Waiting → Deed  -- these goals leave the list
+  takes : ℕ → Deed  -- this action is taken
+  uses : ℕ → Waiting → Deed  -- this method is used at this goal
+
+unfoldable pub deedOf : Problem → ℕ → Move → Deed
+deedOf P p release = releases (goalAt (P .waiting) p ∷ [])
+deedOf P p (act k) = takes k
+deedOf P p (use-method m) = uses m (goalAt (P .waiting) p)
+deedOf P p unknown = releases []
+
+-- What a step comes to: the first of its questions that is answered no, or what it did and the problem that it leaves.
 pub data Stepped : Type 0 where
-  refused : ℕ → Stepped
-  taken : List ℕ → State → List Waiting → Stepped
+  refused : Refusal → Stepped
+  taken : Deed → Problem → Stepped
 
-unfoldable pub ask : Bool → ℕ → Stepped → Stepped
-ask true number rest = rest
-ask false number rest = refused number
-
--- Is any waiting goal free? 27. Is this goal free? 28.
-unfoldable pub askFree : List Waiting → Waiting → Stepped → Stepped
-askFree w g rest = ask (anyFree w) 27 (ask (free w g) 28 rest)
-
--- A move at the goal of a place, at step `n`. For a release, does it hold? 29. For the others: needs hold? 30. Relevant? 31.
--- For a method, at most `limit` waiting afterwards? 32.
-unfoldable pub moved : ℕ → Domain → ℕ → State → List Waiting → ℕ → Move → Stepped
-moved limit d n s w p unknown = refused 26
-moved limit d n s w p release =
-    askFree w (goalAt w p)
-    (ask (formulaHolds s (goalAt w p .formula)) 29
-    (taken [] s (released w p)))
-moved limit d n s w p (act k) =
-    askFree w (goalAt w p)
-    (ask (allHold s (actionAt d k .needs)) 30
-    (ask (relevant (actionAt d k .effects) (goalAt w p .formula)) 31
-    (taken (k ∷ []) (γ s (actionAt d k .effects)) w)))
-moved limit d n s w p (use-method m) =
-    askFree w (goalAt w p)
-    (ask (allHold s (methodAt d m .needs)) 30
-    (ask (relevant (goalOf (methodAt d m)) (goalAt w p .formula)) 31
-    (ask (leb (length (decomposed w p n (networkOf (methodAt d m)))) limit) 32
-    (taken [] s (decomposed w p n (networkOf (methodAt d m)))))))
-
--- Place below the number waiting? 25. Move known? 26. Then the move's own questions.
-unfoldable pub stepped : ℕ → Domain → ℕ → State → List Waiting → Step → Stepped
-stepped limit d n s w x = ask (ltb (x .place) (length w)) 25 (moved limit d n s w (x .place) (moveOf d (x .move)))
-
--- What a run comes to: the number and the step of the first question that fails, or the plan and the last state.
-pub data Outcome : Type 0 where
-  stopped : ℕ → ℕ → Outcome
-  accepted : List ℕ → State → Outcome
-
--- The actions done, in front of the plan of the rest of the run.
-unfoldable pub prepend : List ℕ → Outcome → Outcome
-prepend done (stopped number place) = stopped number place
-prepend done (accepted plan s) = accepted (done ++ plan) s
-
--- After the last step: nothing waiting? 33.
-unfoldable pub ended : ℕ → State → List Waiting → Outcome
-ended n s [] = accepted [] s
-ended n s (g ∷ w) = stopped 33 n
-
--- The run of the steps from step number `n` on. Only a method adds to the list, so `limit` is asked only there: a run from a list
--- within the limit stays within it, and `Accepted` of `Join` asks it of the first list.
-unfoldable pub run : ℕ → Domain → ℕ → State → List Waiting → List Step → Outcome
-run limit d n s w [] = ended n s w
-run limit d n s w (x ∷ xs) = elim (stepped limit d n s w x) [
-  | refused number ↦ stopped number n
-  | taken done s′ w′ ↦ prepend done (run limit d (suc n) s′ w′ xs)
+unfoldable pub stepped : Rules → ℕ → Problem → Step → Stepped
+stepped r n P x = elim (firstNo (stepQuestions r n P x)) [
+  | Questions.refused q ↦ refused q
+  | passed ↦
+      taken (deedOf P (x .place) (moveOf (r .domain) (x .move))) (moved (r .domain) n P (x .place) (moveOf (r .domain) (x .move)))
 ]
 
--- At first the state is the atoms of the order's 12 rows.
-unfoldable pub startOf : Order → State
-startOf o = assign true (o .start) emptyState
+-- What a run comes to: the first question that is answered no, or what its steps did and the last state.
+pub data Outcome : Type 0 where
+  stopped : Refusal → Outcome
+  accepted : List Deed → State → Outcome
+
+-- What a step did, in front of what the rest of the run did.
+unfoldable pub prepend : Deed → Outcome → Outcome
+prepend deed (stopped q) = stopped q
+prepend deed (accepted deeds s) = accepted (deed ∷ deeds) s
+
+-- "After the last step: nothing waiting? 33 (at L)."
+unfoldable pub endQuestions : Problem → List Question
+endQuestions P = 33 asks eqb (length (P .waiting)) 0 ∷ []
+
+unfoldable pub ended : ℕ → Problem → Outcome
+ended n P = elim (firstNo (allAt n (endQuestions P))) [
+  | Questions.refused q ↦ stopped q
+  | passed ↦ accepted [] (P .state)
+]
+
+-- The run of the steps from step number `n` on, by whatever takes one step. A refusal is told at its step.
+unfoldable pub runBy : (ℕ → Problem → Step → Stepped) → ℕ → Problem → List Step → Outcome
+runBy next n P [] = ended n P
+runBy next n P (x ∷ xs) = elim (next n P x) [
+  | refused q ↦ stopped (placed n q)
+  | taken deed P′ ↦ prepend deed (runBy next (suc n) P′ xs)
+]
+
+-- Only a method adds to the list, so the limit is asked only there: a run from a list within the limit stays within it, and `Accepted` of
+-- `Join` asks it of the first list.
+abbrev pub run : Rules → ℕ → Problem → List Step → Outcome
+run r = runBy (stepped r)
+
+-- The questions of such a run, one list: each step's, at that step, before those of the next, which are asked of the problem that its
+-- move makes; then that after the last step.
+unfoldable pub runQuestions : Rules → ℕ → Problem → List Step → List Question
+runQuestions r n P [] = allAt n (endQuestions P)
+runQuestions r n P (x ∷ xs) =
+    allAt n (stepQuestions r n P x)
+    ++ runQuestions r (suc n) (moved (r .domain) n P (x .place) (moveOf (r .domain) (x .move))) xs
+
+-- The plan: the actions taken, in order.
+unfoldable pub planOf : List Deed → List ℕ
+planOf [] = []
+planOf (releases gs ∷ ds) = planOf ds
+planOf (takes k ∷ ds) = k ∷ planOf ds
+planOf (uses m g ∷ ds) = planOf ds
 
 -- The cost of a plan: the sum of its actions' costs.
 unfoldable pub costOf : Domain → List ℕ → ℕ

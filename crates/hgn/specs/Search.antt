@@ -9,15 +9,15 @@ use mathlib.Core.Option.{Option, none, some, Option·map}
 use lib.Dec.{leb}
 use lib.ListN.{length, drop}
 use Rattle.hgn.specs.Lists.{from, firstSome}
+use Rattle.hgn.specs.Questions.{Refusal, Question, _asks_, passed, firstNo}
+use Rattle.hgn.specs.Questions as Questions
 use Rattle.hgn.specs.Meaning.{Domain}
-use Rattle.hgn.specs.State.{State}
-use Rattle.hgn.specs.Network.{Waiting, goalsOf, mostWaiting}
-use Rattle.hgn.specs.Run.{Step, firstMethod, refused, taken, stepped, startOf}
-use Rattle.hgn.specs.Verdict as Verdict
-use Rattle.hgn.specs.Verdict.{Verdict, passed, ask, andThen}
-use Rattle.hgn.specs.Shop.{domain}
-use Rattle.hgn.specs.Order.{order, checkOrder}
-use Rattle.hgn.specs.Trace.{sizeWords, step}
+use Rattle.hgn.specs.Network.{Waiting}
+use Rattle.hgn.specs.Run.{Step, firstMethod, Problem, problemOf, Rules, refused, taken, stepped}
+use Rattle.hgn.specs.Shop.{shopQuestions}
+use Rattle.hgn.specs.Order.{order, orderQuestions}
+use Rattle.hgn.specs.Trace.{sizeWords, step, traceWords}
+use Rattle.hgn.specs.Replay.{rulesOf}
 
 -- The order on traces of one length: at the first differing step a lower place, or the same place and a lower move.
 pub data Earlier : List Step → List Step → Type 0 where
@@ -38,64 +38,68 @@ unfoldable pub candidates : Domain → List Waiting → List Step
 unfolding flatten
 candidates d w = flatten (map (stepsAt d) (from 0 (length w)))
 
--- The first accepted trace of exactly `k` steps, from step `n`, a state and a list.
-unfoldable pub firstOf : ℕ → Domain → ℕ → State → List Waiting → Option (List Step)
-firstOf zero d n s [] = some []
-firstOf zero d n s (g ∷ w) = none
-firstOf (suc k) d n s w =
+-- Where nothing waits, the trace of no steps.
+unfoldable pub noSteps : List Waiting → Option (List Step)
+noSteps [] = some []
+noSteps (g ∷ w) = none
+
+-- The first accepted trace of exactly `k` steps, from step `n` and a problem.
+unfoldable pub firstOf : ℕ → Rules → ℕ → Problem → Option (List Step)
+firstOf zero r n P = noSteps (P .waiting)
+firstOf (suc k) r n P =
     firstSome
-    (λ x. elim (stepped mostWaiting d n s w x) [
-      | refused number ↦ none
-      | taken done s′ w′ ↦ Option·map (λ xs. x ∷ xs) (firstOf k d (suc n) s′ w′)
+    (λ x. elim (stepped r n P x) [
+      | refused q ↦ none
+      | taken deed P′ ↦ Option·map (λ xs. x ∷ xs) (firstOf k r (suc n) P′)
     ])
-    (candidates d w)
+    (candidates (r .domain) (P .waiting))
 
 -- The first of the shortest: of 0 steps, of 1, and so on up to `depth`.
-unfoldable pub firstShortest : ℕ → Domain → State → List Waiting → Option (List Step)
-firstShortest depth d s w = firstSome (λ k. firstOf k d 0 s w) (from 0 (suc depth))
+unfoldable pub firstShortest : ℕ → Rules → Problem → Option (List Step)
+firstShortest depth r P = firstSome (λ k. firstOf k r 0 P) (from 0 (suc depth))
 
 unfoldable pub isFound : Option (List Step) → Bool
 isFound none = false
 isFound (some xs) = true
 
+-- The steps found; none where there are none.
+unfoldable pub stepsFound : Option (List Step) → List Step
+stepsFound none = []
+stepsFound (some xs) = xs
+
 -- The first of the shortest traces for these two sheets.
 unfoldable pub searched : List ℕ → List ℕ → ℕ → Option (List Step)
-searched shop sheet depth = firstShortest depth (domain shop) (startOf (order sheet)) (goalsOf (order sheet))
-
--- A list of steps as a trace: L, then L moves, then L places.
-unfoldable pub traceWords : List Step → List ℕ
-traceWords xs = length xs ∷ map (λ x. x .move) xs ++ map (λ x. x .place) xs
+searched shop sheet depth = firstShortest depth (rulesOf shop) (problemOf (order sheet))
 
 -- The answer, and the room at exit.
 pub record Searched : Type 0 where
-  pub number : ℕ
-  pub place : ℕ
+  pub refusal : Refusal  -- found, number 0 and place L
   pub room : List ℕ
 
--- Refused, it writes nothing and answers the number and its place.
-unfoldable pub noTrace : List ℕ → ℕ → ℕ → Searched
-noTrace room number place = record { number = number; place = place; room = room }
+-- "refused, it writes nothing and answers the number and its place".
+unfoldable pub noTrace : List ℕ → Refusal → Searched
+noTrace room q = record { refusal = q; room = room }
 
--- Found, it writes the trace into the first 1 + 2L words, the rest unchanged, and answers 0 and L. None found: 43.
-unfoldable pub written : List ℕ → Option (List Step) → Searched
-written room none = noTrace room 43 0
-written room (some xs) =
-    record { number = 0; place = length xs; room = traceWords xs ++ drop (length (traceWords xs)) room }
+-- "A search writes the trace into the first 1 + 2L words and answers 0 and L, the rest unchanged".
+unfoldable pub written : List ℕ → List Step → Searched
+written room xs =
+    record { refusal = record { number = 0; place = length xs }; room = traceWords xs ++ drop (length (traceWords xs)) room }
 
 -- The deepest search.
 abbrev pub mostDepth : ℕ
 mostDepth = 32
 
--- The sheets' questions, then: D at most 32? 41. Room for 1 + 2D words? 42.
-unfoldable pub checkSearch : List ℕ → List ℕ → ℕ → List ℕ → Verdict
-checkSearch shop sheet depth room =
-    andThen (checkOrder shop sheet)
-    (ask (leb depth mostDepth) 41 0
-    (ask (leb (sizeWords + 2 * depth) (length room)) 42 0
-    passed))
+-- "Search, after shop and order: D at most 32? 41. Room for 1 + 2D words? 42. Is there an accepted trace of at most D steps? 43."
+unfoldable pub searchQuestions : List ℕ → List ℕ → ℕ → List ℕ → List Question
+searchQuestions shop sheet depth room =
+    shopQuestions shop ++ orderQuestions shop sheet
+    ++ (41 asks leb depth mostDepth
+    ∷ 42 asks leb (sizeWords + 2 * depth) (length room)
+    ∷ 43 asks isFound (searched shop sheet depth)
+    ∷ [])
 
 unfoldable pub search : List ℕ → List ℕ → ℕ → List ℕ → Searched
-search shop sheet depth room = elim (checkSearch shop sheet depth room) [
-  | Verdict.refused number place ↦ noTrace room number place
-  | passed ↦ written room (searched shop sheet depth)
+search shop sheet depth room = elim (firstNo (searchQuestions shop sheet depth room)) [
+  | Questions.refused q ↦ noTrace room q
+  | passed ↦ written room (stepsFound (searched shop sheet depth))
 ]

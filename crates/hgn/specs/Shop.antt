@@ -1,14 +1,14 @@
 -- The shop sheet: its sizes, its meaning, and the questions 1 to 9. Document 01, "The three sheets" and "Questions".
 use Prim.Native.Nat.{ℕ, suc, _+_, _*_}
 use mathlib.Core.Bool.{Bool, _&&_}
-use mathlib.Core.List.{List, [], _∷_}
+use mathlib.Core.List.{List, [], _∷_, _++_}
 use lib.Dec.{eqb, leb}
 use lib.ListN.{length}
-use Rattle.hgn.specs.Rows.{Row, word, rowsOf, mostRows}
+use Rattle.hgn.specs.Questions.{Question, _asks_, _at_, Verdict, firstNo}
+use Rattle.hgn.specs.Rows.{Row, word, rowsOf, mostRows, rowQuestions, positionAfter}
 use Rattle.hgn.specs.Tag.{shopFollow, opening, mayEnd}
 use Rattle.hgn.specs.Meaning.{Domain, Method, domainOf, lastOf}
 use Rattle.hgn.specs.State.{mostAtoms}
-use Rattle.hgn.specs.Verdict.{Verdict, passed, ask, andThen, rowQuestions, positionAfter}
 
 -- The sizes F, K, M and N.
 abbrev pub atomCount : List ℕ → ℕ
@@ -57,17 +57,22 @@ nodeRules m =
     leb 1 (length (m .nodes)) && leb (length (m .nodes)) mostNodes && eqb (length (lastOf (m .nodes) .formula)) 1
     && eqb (length (lastOf (m .nodes) .after)) 0
 
--- Each method, from method `i`, within its node rules? 9, at the number of the first that isn't.
-unfoldable pub methodQuestions : ℕ → List Method → Verdict
-methodQuestions i [] = passed
-methodQuestions i (m ∷ ms) = ask (nodeRules m) 9 i (methodQuestions (suc i) ms)
+-- "Each method within its node rules? 9 (at the number, from 0, of the first method that isn't)": `i` is the method.
+unfoldable pub methodQuestions : ℕ → List Method → List Question
+methodQuestions i [] = []
+methodQuestions i (m ∷ ms) = 9 asks nodeRules m at i ∷ methodQuestions (suc i) ms
+
+-- "Shop: at least 4 words long? 1. F, K, M, N in range? 2. Length 4 + 2N? 3. Then row by row [4 to 6]. Then: may it end here? 7.
+-- K actions and M methods? 8. Each method within its node rules? 9".
+unfoldable pub shopQuestions : List ℕ → List Question
+shopQuestions shop =
+    1 asks leb sizeWords (length shop)
+    ∷ 2 asks sizesInRange shop
+    ∷ 3 asks eqb (length shop) (sizeWords + 2 * rowCount shop)
+    ∷ rowQuestions shopFollow 4 (atomCount shop) 0 opening (shopRows shop)
+    ++ (7 asks mayEnd (positionAfter opening (shopRows shop) .context)
+    ∷ 8 asks (eqb (length (domain shop .actions)) (actionCount shop) && eqb (length (domain shop .methods)) (methodCount shop))
+    ∷ methodQuestions 0 (domain shop .methods))
 
 unfoldable pub checkShop : List ℕ → Verdict
-checkShop shop =
-    ask (leb sizeWords (length shop)) 1 0
-    (ask (sizesInRange shop) 2 0
-    (ask (eqb (length shop) (sizeWords + 2 * rowCount shop)) 3 0
-    (andThen (rowQuestions shopFollow 4 (atomCount shop) 0 opening (shopRows shop))
-    (ask (mayEnd (positionAfter opening (shopRows shop) .context)) 7 0
-    (ask (eqb (length (domain shop .actions)) (actionCount shop) && eqb (length (domain shop .methods)) (methodCount shop)) 8 0
-    (methodQuestions 0 (domain shop .methods)))))))
+checkShop shop = firstNo (shopQuestions shop)

@@ -1,9 +1,10 @@
--- States, what holds in them, what an action makes of them, and relevance.
--- Document 01, "How a derivation runs"; source document 000, "Domain-Independent Planning" and
+-- States, what holds in them, what an action makes of them, and relevance: each as a test, which a step asks, and as a proposition, in
+-- which Definition 1 is written. Document 01, "How a derivation runs"; source document 000, "Domain-Independent Planning" and
 -- "Goal Networks and HGN Methods".
 use Prim.Native.Nat.{ℕ}
+use mathlib.Core.Path.{_≡_}
 use mathlib.Core.Bool.{Bool, true, false, not, cond, _&&_, Bool·beq}
-use mathlib.Core.List.{List, [], _∷_, flatten}
+use mathlib.Core.List.{List, [], _∷_, flatten, List·Memᴰ}
 use lib.Dec.{eqb}
 use lib.ListN.{getD, set, replicate}
 use Rattle.hgn.specs.Lists.{any, all}
@@ -25,15 +26,26 @@ unfoldable pub assign : Bool → List ℕ → State → State
 assign b [] s = s
 assign b (a ∷ rest) s = assign b rest (set s a b)
 
+-- s ⊨ l: the literal holds.
 unfoldable pub literalHolds : State → Literal → Bool
 literalHolds s l = Bool·beq (getD s (l .atom) false) (l .sign)
 
+abbrev pub Entails : State → Literal → Type 0
+Entails s l = getD s (l .atom) false ≡ l .sign
+
+-- s ⊨ c, for a conjunct of literals: every literal holds.
 unfoldable pub allHold : State → List Literal → Bool
 allHold s ls = all (literalHolds s) ls
 
--- A goal holds if one of its alternatives does.
+abbrev pub EntailsAll : State → List Literal → Type 0
+EntailsAll s ls = (l : Literal) → List·Memᴰ l ls → Entails s l
+
+-- s ⊨ g, for a formula in disjunctive normal form. "A goal holds if one of its alternatives does."
 unfoldable pub formulaHolds : State → Formula → Bool
 formulaHolds s f = any (allHold s) f
+
+abbrev pub Satisfies : State → Formula → Type 0
+Satisfies s g = (c : List Literal) × List·Memᴰ c g × EntailsAll s c
 
 -- The atoms of the literals with this sign.
 unfoldable pub atomsOf : Bool → List Literal → List ℕ
@@ -43,11 +55,6 @@ atomsOf b (l ∷ ls) = cond (Bool·beq (l .sign) b) (l .atom ∷ atomsOf b ls) (
 -- γ(s, a) of 000: (state less made false) with made true.
 unfoldable pub γ : State → List Literal → State
 γ s effects = assign true (atomsOf true effects) (assign false (atomsOf false effects) s)
-
--- The effects one row after another, each setting its atom, as code might do it; that this is γ is `EffectsAreGamma`.
-unfoldable pub byRows : State → List Literal → State
-byRows s [] = s
-byRows s (l ∷ ls) = byRows (set s (l .atom) (l .sign)) ls
 
 abbrev pub opposite : Literal → Literal
 opposite l = record { sign = not (l .sign); atom = l .atom }
@@ -61,3 +68,17 @@ unfoldable pub relevant : List Literal → Formula → Bool
 unfolding flatten
 relevant effects f =
     any (contains effects) (flatten f) && not (any (λ l. contains effects (opposite l)) (flatten f))
+
+-- A literal in g, in whichever conjunct.
+abbrev pub LiteralOf : Formula → Literal → Type 0
+LiteralOf g l = (c : List Literal) × List·Memᴰ c g × List·Memᴰ l c
+
+-- "relevant to a goal formula g if eff(a) (or post(m), respectively) entails at least one literal in g and does not entail the
+-- negation of any literal in g". 000 gives a method no post(m) of its own: what it brings about is goal(m), its last node's. A list of
+-- literals in which no atom has both signs entails a literal exactly when the literal stands in it, since any state in which the
+-- list holds may give every other atom either value; checked sheets have no other lists.
+pub record Relevant (effects : List Literal) (g : Formula) : Type 0 where
+  pub literal : Literal
+  pub wanted : LiteralOf g literal
+  pub contained : List·Memᴰ literal effects
+  pub no-opposite : (l : Literal) → LiteralOf g l → ¬ List·Memᴰ (opposite l) effects

@@ -1,12 +1,13 @@
 -- The trace: its size, its steps, and the questions 21 to 23. Document 01, "The three sheets" and "Questions".
 use Prim.Native.Nat.{ℕ, _+_, _*_}
-use mathlib.Core.List.{List, zipWith}
+use mathlib.Core.List.{List, [], _∷_, _++_, map, zipWith}
 use lib.Dec.{eqb, leb}
 use lib.ListN.{length, take, drop}
+use Rattle.hgn.specs.Questions.{Question, _asks_, Verdict, firstNo}
 use Rattle.hgn.specs.Rows.{word}
 use Rattle.hgn.specs.Run.{Step}
-use Rattle.hgn.specs.Verdict.{Verdict, passed, ask, andThen}
-use Rattle.hgn.specs.Order.{checkOrder}
+use Rattle.hgn.specs.Shop.{shopQuestions}
+use Rattle.hgn.specs.Order.{orderQuestions}
 
 -- The size L.
 abbrev pub stepCount : List ℕ → ℕ
@@ -30,12 +31,17 @@ stepsOf trace =
     zipWith step (take (stepCount trace) (drop sizeWords trace))
     (take (stepCount trace) (drop (sizeWords + stepCount trace) trace))
 
-unfoldable pub traceQuestions : List ℕ → Verdict
+-- A list of steps as a trace: L, then L moves, then L places.
+unfoldable pub traceWords : List Step → List ℕ
+traceWords xs = length xs ∷ map (λ x. x .move) xs ++ map (λ x. x .place) xs
+
+-- "Trace: at least 1 word? 21. L in range? 22. Length 1 + 2L? 23."
+unfoldable pub traceQuestions : List ℕ → List Question
 traceQuestions trace =
-    ask (leb sizeWords (length trace)) 21 0
-    (ask (leb (stepCount trace) mostSteps) 22 0
-    (ask (eqb (length trace) (sizeWords + 2 * stepCount trace)) 23 0
-    passed))
+    21 asks leb sizeWords (length trace)
+    ∷ 22 asks leb (stepCount trace) mostSteps
+    ∷ 23 asks eqb (length trace) (sizeWords + 2 * stepCount trace)
+    ∷ []
 
 unfoldable pub checkTrace : List ℕ → List ℕ → List ℕ → Verdict
-checkTrace shop sheet trace = andThen (checkOrder shop sheet) (traceQuestions trace)
+checkTrace shop sheet trace = firstNo (shopQuestions shop ++ orderQuestions shop sheet ++ traceQuestions trace)

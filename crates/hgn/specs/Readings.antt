@@ -1,0 +1,206 @@
+-- What the definitions say, read a second time and by propositions: that accepted is derived, the order of the questions, 000's order and
+-- operations on networks, methods, effects, states, costs. What document 01 and source document 000 say of each is quoted above it.
+-- Values stand in `proofs/`, gathered in `proofs/Demands.antt`.
+use Prim.Native.Nat.{ℕ, suc, _+_, _-_, _*_, _≤_, _<_}
+use mathlib.Core.Path.{_≡_}
+use mathlib.Core.Bool.{true, false}
+use mathlib.Core.Logic.{_↔_, _⊎_, _≢_}
+use mathlib.Core.List.{List, [], _∷_, _++_, List·Memᴰ}
+use lib.ListN.{length, getD}
+use mathlib.Core.Option.{some}
+use Rattle.hgn.specs.Lists.{At, below}
+use Rattle.hgn.specs.Questions.{Refusal, passed}
+use Rattle.hgn.specs.Questions as Questions
+use Rattle.hgn.specs.Tag.{mostCost}
+use Rattle.hgn.specs.Meaning.{Literal, Node, Method, Order, lastOf, goalOf, networkOf}
+use Rattle.hgn.specs.State.{State, mostAtoms, allHold, formulaHolds, γ}
+use Rattle.hgn.specs.Network.{Waiting, step, free, anyFree, enter, goalsOf, goalAt, released, decomposed}
+use Rattle.hgn.specs.Run.{Step, release, act, use-method, unknown, moveOf, known, actionAt, methodAt, Problem, startOf, problemFrom, Rules, Decided, moved, Deed, Stepped, refused, taken, stepped, costOf}
+use Rattle.hgn.specs.Join.{Accepted, join}
+use Rattle.hgn.specs.Shop.{domain, mostActions, checkShop}
+use Rattle.hgn.specs.Order.{order, checkOrder}
+use Rattle.hgn.specs.Trace.{sizeWords, stepCount, mostSteps, stepsOf, checkTrace}
+use Rattle.hgn.specs.Replay.{replay}
+use Rattle.hgn.specs.Search.{mostDepth, isFound, searched, search}
+use Rattle.hgn.specs.Definition1.{Derivation, Listed, Precedes, Unconstrained}
+
+-- Accepted is derived. Whatever the rules, if their tests decide their propositions, and whatever the first problem, accepted steps are a
+-- derivation under Definition 1 of the same plan and last state, and back. The limit on actions keeps the moves apart.
+abbrev pub AcceptedIsDerivation : Type 1
+AcceptedIsDerivation = (r : Rules) → Decided r → length (r .domain .actions) ≤ mostActions
+    → (P : Problem) (xs : List Step) (plan : List ℕ) (last : State)
+    → Accepted r P xs plan last ↔ Derivation r 0 P xs plan last
+
+-- The order of the questions: where two neighbours are both answered no, and those before them yes, the number told is the first one's.
+
+-- The step is refused by the question of this number.
+abbrev pub RefusedBy : ℕ → Stepped → Type 0
+RefusedBy number o = (q : Refusal) × (o ≡ refused q) × (q .number ≡ number)
+
+-- Of a step: the numbers, the place and the goal at it are those of document 01.
+pub record StepOrder (r : Rules) (n : ℕ) (P : Problem) (x : Step) : Type 0 where
+  pub place-before-known : length (P .waiting) ≤ x .place → moveOf (r .domain) (x .move) ≡ unknown → RefusedBy 25 (stepped r n P x)
+  pub known-before-any : x .place < length (P .waiting) → moveOf (r .domain) (x .move) ≡ unknown → anyFree (P .waiting) ≡ false
+      → RefusedBy 26 (stepped r n P x)
+  pub any-before-this : x .place < length (P .waiting) → known (moveOf (r .domain) (x .move)) ≡ true → anyFree (P .waiting) ≡ false
+      → free (P .waiting) (goalAt (P .waiting) (x .place)) ≡ false → RefusedBy 27 (stepped r n P x)
+  pub this-before-holds : x .place < length (P .waiting) → moveOf (r .domain) (x .move) ≡ release → anyFree (P .waiting) ≡ true
+      → free (P .waiting) (goalAt (P .waiting) (x .place)) ≡ false
+      → formulaHolds (P .state) (goalAt (P .waiting) (x .place) .formula) ≡ false → RefusedBy 28 (stepped r n P x)
+  pub this-before-needs : (k : ℕ) → x .place < length (P .waiting) → moveOf (r .domain) (x .move) ≡ act k → anyFree (P .waiting) ≡ true
+      → free (P .waiting) (goalAt (P .waiting) (x .place)) ≡ false
+      → allHold (P .state) (actionAt (r .domain) k .needs) ≡ false → RefusedBy 28 (stepped r n P x)
+  pub this-before-method-needs : (m : ℕ) → x .place < length (P .waiting) → moveOf (r .domain) (x .move) ≡ use-method m
+      → anyFree (P .waiting) ≡ true → free (P .waiting) (goalAt (P .waiting) (x .place)) ≡ false
+      → allHold (P .state) (methodAt (r .domain) m .needs) ≡ false → RefusedBy 28 (stepped r n P x)
+  pub needs-before-relevant : (k : ℕ) → x .place < length (P .waiting) → moveOf (r .domain) (x .move) ≡ act k
+      → free (P .waiting) (goalAt (P .waiting) (x .place)) ≡ true
+      → allHold (P .state) (actionAt (r .domain) k .needs) ≡ false
+      → r .mayAct (actionAt (r .domain) k) (goalAt (P .waiting) (x .place) .formula) ≡ false → RefusedBy 30 (stepped r n P x)
+  pub method-needs-before-relevant : (m : ℕ) → x .place < length (P .waiting) → moveOf (r .domain) (x .move) ≡ use-method m
+      → free (P .waiting) (goalAt (P .waiting) (x .place)) ≡ true
+      → allHold (P .state) (methodAt (r .domain) m .needs) ≡ false
+      → r .mayUse (methodAt (r .domain) m) (goalAt (P .waiting) (x .place) .formula) ≡ false → RefusedBy 30 (stepped r n P x)
+  pub relevant-before-limit : (m : ℕ) → x .place < length (P .waiting) → moveOf (r .domain) (x .move) ≡ use-method m
+      → free (P .waiting) (goalAt (P .waiting) (x .place)) ≡ true
+      → allHold (P .state) (methodAt (r .domain) m .needs) ≡ true
+      → r .mayUse (methodAt (r .domain) m) (goalAt (P .waiting) (x .place) .formula) ≡ false
+      → r .limit < length (moved (r .domain) n P (x .place) (use-method m) .waiting) → RefusedBy 31 (stepped r n P x)
+
+-- Of a replay: 23 before 24, and 24 before 25.
+pub record ReplayOrder (shop sheet trace room : List ℕ) : Type 0 where
+  pub size-before-room : checkOrder shop sheet ≡ passed → 1 ≤ length trace → stepCount trace ≤ mostSteps
+      → length trace ≢ sizeWords + 2 * stepCount trace → length room < stepCount trace
+      → replay shop sheet trace room .answer .refusal .number ≡ 23
+  pub room-before-place : checkTrace shop sheet trace ≡ passed → length room < stepCount trace
+      → (x : Step) (xs : List Step) → stepsOf trace ≡ x ∷ xs → length (order sheet .goals) ≤ x .place
+      → replay shop sheet trace room .answer .refusal .number ≡ 24
+
+-- Of a search: 18 before 41, 41 before 42, 42 before 43.
+pub record SearchOrder (shop sheet : List ℕ) (depth : ℕ) (room : List ℕ) : Type 0 where
+  pub goals-before-depth : (q : Refusal) → checkOrder shop sheet ≡ Questions.refused q → q .number ≡ 18 → mostDepth < depth
+      → search shop sheet depth room .refusal .number ≡ 18
+  pub depth-before-room : checkOrder shop sheet ≡ passed → mostDepth < depth → length room < sizeWords + 2 * depth
+      → search shop sheet depth room .refusal .number ≡ 41
+  pub room-before-none : checkOrder shop sheet ≡ passed → depth ≤ mostDepth → length room < sizeWords + 2 * depth
+      → isFound (searched shop sheet depth) ≡ false → search shop sheet depth room .refusal .number ≡ 42
+
+pub record QuestionsInOrder : Type 1 where
+  pub of-step : (r : Rules) (n : ℕ) (P : Problem) (x : Step) → StepOrder r n P x
+  pub of-replay : (shop sheet trace room : List ℕ) → ReplayOrder shop sheet trace room
+  pub of-search : (shop sheet : List ℕ) (depth : ℕ) (room : List ℕ) → SearchOrder shop sheet depth room
+
+-- "every goal of the first before every goal of the second": in the join's list the first's goals have the first places.
+abbrev pub FirstBeforeSecond : Type 0
+FirstBeforeSecond = (a b : Order) (i j : ℕ) (p q : Waiting) → At (goalsOf (join a b)) i p → At (goalsOf (join a b)) j q
+    → i < length (a .goals) → length (a .goals) ≤ j → Listed p q
+
+-- The order of a sheet that passes with this shop sheet, or a join of such orders.
+pub data FromSheets (shop : List ℕ) : Order → Type 0 where
+  by-sheet : (sheet : List ℕ) → checkOrder shop sheet ≡ passed → FromSheets shop (order sheet)
+  by-join : {a b : Order} → FromSheets shop a → FromSheets shop b → FromSheets shop (join a b)
+
+-- Exactly these steps, numbered from 0, are taken from the problem `P₀`, and lead to this problem.
+pub data Reached (r : Rules) (P₀ : Problem) : List Step → Problem → Type 0 where
+  first : Reached r P₀ [] P₀
+  next : {xs : List Step} {P P′ : Problem} {deed : Deed} (x : Step)
+      → Reached r P₀ xs P → stepped r (length xs) P x ≡ taken deed P′ → Reached r P₀ (xs ++ (x ∷ [])) P′
+
+-- Document 01's 'after' and 000's partial order. On every network that a run reaches from checked sheets or their joins, under whatever
+-- rules for the shop's domain and from whatever first state, no goal waits twice, a goal is free by the listed pairs exactly when it is
+-- unconstrained by their transitive closure, and that closure is a strict partial order.
+
+pub record OrderedNetwork (w : List Waiting) : Type 0 where
+  pub distinct : (i j : ℕ) (t : Waiting) → At w i t → At w j t → i ≡ j
+  pub free-iff : (t : Waiting) → List·Memᴰ t w → (free w t ≡ true) ↔ Unconstrained w t
+  pub irreflexive : (t : Waiting) → ¬ Precedes w t t
+
+-- 000's operations on such a network. Goal release: "T′ = T \ {t} and ≺′ is the restriction of ≺ to T′". Method application:
+-- "T′ = T ∪ T_m and ≺′ = ≺ ∪ ≺_m ∪ {(t_m, t) | t_m ∈ T_m}" (000 prints m ∈ T_m), of the listed pairs, and of the orders, whose union is
+-- closed under transitivity.
+
+-- The nodes T_m of a method used at goal `t` in step `n`.
+abbrev pub entering : ℕ → Waiting → Method → List Waiting
+entering n t m = enter (step n) (some (t .name)) 0 (networkOf m)
+
+-- A listed pair between two goals of the list.
+abbrev pub Pair : List Waiting → Waiting → Waiting → Type 0
+Pair w a b = List·Memᴰ a w × List·Memᴰ b w × Listed a b
+
+-- The transitive closure of a relation.
+pub data Closure (R : Waiting → Waiting → Type 0) : Waiting → Waiting → Type 0 where
+  one : {a b : Waiting} → R a b → Closure R a b
+  more : {a b c : Waiting} → Closure R a b → Closure R b c → Closure R a c
+
+pub record Operations (n : ℕ) (w : List Waiting) : Type 0 where
+  pub release-nodes : (p : ℕ) (t a : Waiting) → At w p t → List·Memᴰ a (released w p) ↔ (List·Memᴰ a w × (a ≢ t))
+  pub release-order : (p : ℕ) (t a b : Waiting) → At w p t → Unconstrained w t → List·Memᴰ a (released w p) → List·Memᴰ b (released w p)
+      → Precedes (released w p) a b ↔ Precedes w a b
+  pub method-new : (p : ℕ) (t a : Waiting) (m : Method) → At w p t → List·Memᴰ a (entering n t m) → ¬ List·Memᴰ a w
+  pub method-nodes : (p : ℕ) (t a : Waiting) (m : Method) → At w p t
+      → List·Memᴰ a (decomposed w p (step n) (networkOf m)) ↔ (List·Memᴰ a w ⊎ List·Memᴰ a (entering n t m))
+  pub method-pairs : (p : ℕ) (t a b : Waiting) (m : Method) → At w p t
+      → Pair (decomposed w p (step n) (networkOf m)) a b
+      ↔ (Pair w a b
+      ⊎ ((List·Memᴰ a (entering n t m) × List·Memᴰ b (entering n t m) × List·Memᴰ (a .name .number) (b .after))
+      ⊎ (List·Memᴰ a (entering n t m) × (b ≡ t))))
+  pub method-order : (p : ℕ) (t a b : Waiting) (m : Method) → At w p t
+      → Precedes (decomposed w p (step n) (networkOf m)) a b
+      ↔ Closure (λ a b. Precedes w a b ⊎ (Precedes (entering n t m) a b ⊎ (List·Memᴰ a (entering n t m) × (b ≡ t)))) a b
+
+abbrev pub NetworksAre000s : Type 1
+NetworksAre000s = (shop : List ℕ) (o : Order) → FromSheets shop o
+    → (r : Rules) → r .domain ≡ domain shop → (s : State) (xs : List Step) (P : Problem) → Reached r (problemFrom s o) xs P
+    → OrderedNetwork (P .waiting) × Operations (length xs) (P .waiting)
+
+-- 000: "By convention, network(m) has a last node t_g containing goal(m) to ensure that m accomplishes its own goal." Document 01:
+-- "it comes after all the others by rule".
+
+pub record EndsInGoal (m : Method) : Type 0 where
+  pub goal : lastOf (networkOf m) .formula ≡ goalOf m ∷ []
+  pub after-others : lastOf (networkOf m) .after ≡ below (length (networkOf m) - 1)
+  -- Its other nodes are as listed.
+  pub others : (init : List Node) (last : Node) → m .nodes ≡ init ++ (last ∷ [])
+      → networkOf m ≡ init ++ (record { after = below (length init); formula = last .formula } ∷ [])
+
+abbrev pub MethodsEndInGoals : Type 0
+MethodsEndInGoals = (shop : List ℕ) → checkShop shop ≡ passed → (m : Method) → List·Memᴰ m (domain shop .methods) → EndsInGoal m
+
+-- 000: "γ(s, a) = (s - eff⁻(a)) ∪ eff⁺(a)", atom by atom.
+
+-- The atom is in the state.
+abbrev pub In : State → ℕ → Type 0
+In s p = getD s p false ≡ true
+
+-- The set (s - eff⁻) ∪ eff⁺ has the atom.
+abbrev pub InEffect : State → List Literal → ℕ → Type 0
+InEffect s effects p =
+    (In s p × (¬ List·Memᴰ (record { sign = false; atom = p }) effects)) ⊎ List·Memᴰ (record { sign = true; atom = p }) effects
+
+abbrev pub EffectsAreGamma : Type 0
+EffectsAreGamma = (s : State) (effects : List Literal) (p : ℕ) → p < length s → In (γ s effects) p ↔ InEffect s effects p
+
+-- Document 01: "A state is a set of atoms. At first the state is the atoms of the order's 12 rows". Every state that a run reaches from
+-- a state of 256 atoms is one, so that the effects above are those of its actions.
+
+pub record StatesAreSetsOfAtoms : Type 1 where
+  pub at-first : (o : Order) (p : ℕ) → p < mostAtoms → In (startOf o) p ↔ List·Memᴰ p (o .start)
+  pub first-whole : (o : Order) → length (startOf o) ≡ mostAtoms
+  pub whole : (r : Rules) (P Q : Problem) (xs : List Step) → Reached r P xs Q → length (Q .state) ≡ length (P .state)
+
+-- Document 01: the cost is "at most 4,096 × 65,535 = 268,431,360".
+pub record CostsAreBounded : Type 0 where
+  pub bounded : (shop : List ℕ) → checkShop shop ≡ passed → (plan : List ℕ) → length plan ≤ mostSteps
+      → costOf (domain shop) plan ≤ mostSteps * mostCost
+  pub product : mostSteps * mostCost ≡ 268_431_360
+
+-- All of it.
+pub record Read : Type 1 where
+  pub accepted-is-derivation : AcceptedIsDerivation
+  pub questions-in-order : QuestionsInOrder
+  pub first-before-second : FirstBeforeSecond
+  pub networks-are-000s : NetworksAre000s
+  pub methods-end-in-goals : MethodsEndInGoals
+  pub effects-are-gamma : EffectsAreGamma
+  pub states-are-sets : StatesAreSetsOfAtoms
+  pub costs-are-bounded : CostsAreBounded
