@@ -13,8 +13,7 @@
  * - What is written (plan, room, answer, atoms) overlaps nothing else that is passed. The sheets are only read, and may
  *   overlap each other.
  * - Until the call returns, nothing else writes what is passed, and nothing else reads what is written.
- * - A depth is 16 bits wide. C cuts a larger number to 16 bits before the call sees it, so 65536 would search as 0: test it
- *   first.
+ * - A depth is 32 bits wide. C cuts a number of a wider type to 32 bits before the call sees it: test such a number first.
  *
  * All memory stays the caller's: a call keeps no pointer, allocates nothing and frees nothing. What stands in `answer` and
  * `atoms` before the call does not matter; both are written whole by every call, refused or not.
@@ -23,6 +22,11 @@
  *
  * Stack, measured and read off the compiled code, since no proof bounds it: under 1 kB for the checks, under 32 kB for
  * hgn_replay, which does not recurse, about 330 kB for hgn_search at depth 32 (some 9 kB for each step of depth).
+ *
+ * A call whose shape changes (its parameters, their widths, how much it writes) gets a new symbol: its name with a number
+ * behind it. The old symbol goes, and a macro of this header keeps the plain name for C. So an object that was compiled with
+ * an older header, which asks for the old symbol, does not link, rather than misbehave. This holds for every later change. A
+ * language that does not read this header declares the symbol with its number.
  *
  * To link, on x86-64 Linux: `rt staticlib capi` proves the crate and writes target/staticlib/libcapi.a, which needs only
  * memcpy and memset of the C library:  cc -Iinclude program.c target/staticlib/libcapi.a
@@ -90,12 +94,14 @@ void hgn_replay(const uint16_t *shop, size_t shop_words,
  * Refused: number and place, and `room` is unchanged; 41 at 0: depth above 32; 42 at 0: `room` of fewer than 1 + 2 * depth
  * words; 43 at 0: there is no such trace.
  * The time can grow exponentially with the depth.
+ * hgn_search, without a number, was the symbol of a call whose depth was 16 bits wide.
  */
-void hgn_search(const uint16_t *shop, size_t shop_words,
-                const uint16_t *order, size_t order_words,
-                uint16_t depth,
-                uint16_t *room, size_t room_words,
-                uint32_t answer[2]);
+#define hgn_search hgn_search_2
+void hgn_search_2(const uint16_t *shop, size_t shop_words,
+                  const uint16_t *order, size_t order_words,
+                  uint32_t depth,
+                  uint16_t *room, size_t room_words,
+                  uint32_t answer[2]);
 
 #ifdef __cplusplus
 }

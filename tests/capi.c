@@ -140,7 +140,7 @@ static void replays(void) {
 }
 
 /* The search of this depth with so many words of room. */
-static void searched(uint16_t depth, size_t words) {
+static void searched(uint32_t depth, size_t words) {
     fresh();
     hgn_search(SHEET(shop), SHEET(order), depth, room + KEPT, words, answer + KEPT);
 }
@@ -165,6 +165,14 @@ static void searches(void) {
     searched(33, ROOM);
     same_verdict("a search of depth 33", 41, 0);
     same_room("a search of depth 33", trace, 0);
+
+    searched(65536, ROOM);
+    same_verdict("a search of depth 65536", 41, 0);
+    same_room("a search of depth 65536", trace, 0);
+
+    searched(UINT32_MAX, ROOM);
+    same_verdict("a search of depth UINT32_MAX", 41, 0);
+    same_room("a search of depth UINT32_MAX", trace, 0);
 }
 
 int main(void) {

@@ -76,12 +76,13 @@ pub extern "C" fn hgn_replay<'a>(
     *atoms = bytes_of(last);
 }
 
-// Questions 1 to 9 and 11 to 18, then 41 to 43. Found, the trace stands in the first 1 + 2L words of the room.
+// Questions 1 to 9 and 11 to 18, then 41 to 43. Found, the trace stands in the first 1 + 2L words of the room. The header calls it
+// `hgn_search`, and says when a symbol gets a number.
 #[no_mangle]
-pub extern "C" fn hgn_search<'a>(
+pub extern "C" fn hgn_search_2<'a>(
     shop: &'a [u16],
     order: &'a [u16],
-    depth: u16,
+    depth: u32,
     room: &mut [u16],
     answer: &mut [u32; 2],
 )

@@ -42,7 +42,7 @@ fn write_answer(answer: Verdict, room: &[u16]) {
 
 fn write_on<'a>(shop: &'a [u16], order: &'a [u16], depth: u16, room: &mut [u16]) {
     room::fill(room);
-    let answer = search(shop, order, depth, room);
+    let answer = search(shop, order, depth as u32, room);
     write_answer(answer, room);
 }
 

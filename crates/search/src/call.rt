@@ -124,7 +124,7 @@ fn write_trace(room: &mut [u16], found: Shortest)
 }
 
 // Questions 1 to 9 and 11 to 18, then 41 to 43. Found, the trace stands in the first 1 + 2L words of the room.
-pub fn search<'a>(shop: &'a [u16], order: &'a [u16], depth: u16, room: &mut [u16]) -> Verdict
+pub fn search<'a>(shop: &'a [u16], order: &'a [u16], depth: u32, room: &mut [u16]) -> Verdict
     ensures { λ r. ⌜ Called (now (shop .entry)) (now (order .entry)) depth (now (room .entry)) r (now (room .exit)) ⌝ }
 {
     let verdict = check::check_order(shop, order);
@@ -143,7 +143,7 @@ pub fn search<'a>(shop: &'a [u16], order: &'a [u16], depth: u16, room: &mut [u16
             place: 0,
         };
     }
-    let found = search_checked(shop, order, depth);
+    let found = search_checked(shop, order, depth as u16);
     let steps = found.steps;
     if steps.found {
         write_trace(room, found);

@@ -14,7 +14,7 @@ pub struct Found {
 
 impl Found {
     // The most steps of a search.
-    pub const MOST: u16 = 32;
+    pub const MOST: u32 = 32;
 
     // No trace, or one of no steps.
     pub fn empty(found: bool) -> Found

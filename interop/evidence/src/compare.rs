@@ -207,7 +207,7 @@ pub fn search(
     tally: &mut Tally,
     random: &mut Random,
     (shop, order): (&[u16], &[u16]),
-    depth: u16,
+    depth: u32,
     room: usize,
     budget: u64,
 ) -> Option<Answer> {

@@ -24,6 +24,10 @@ const LEAST_EACH: u64 = 100;
 const STEPS_TRIED: u64 = 20_000;
 const DEEP_STEPS_TRIED: u64 = 100_000;
 
+/// Depths of more than 16 bits. Cut to 16 bits, the first three would pass
+/// question 41.
+const WIDE_DEPTHS: [u32; 4] = [65_536, 65_537, 65_568, u32::MAX];
+
 /// A well-formed shop and order, as words and as the plain model reads them.
 struct Domain {
     draft: (Shop, Order),
@@ -309,12 +313,12 @@ fn deep_search_case(random: &mut Random, tally: &mut Tally) {
     };
     let sheets = (&domain.shop_words[..], &domain.order_words[..]);
     for depth in [20, 14, 10, 7] {
-        let room = 1 + 2 * usize::from(depth);
+        let room = 1 + 2 * depth as usize;
         let answer = compare::search(tally, random, sheets, depth, room, DEEP_STEPS_TRIED);
         if let Some(answer) = answer {
             // One step fewer than the shortest: none.
             if answer.number == 0 && answer.place > 0 {
-                let depth = answer.place as u16 - 1;
+                let depth = answer.place - 1;
                 compare::search(tally, random, sheets, depth, room, DEEP_STEPS_TRIED);
             }
             return;
@@ -329,7 +333,7 @@ fn naive_search_case(random: &mut Random, tally: &mut Tally) {
     let expected = (0..=depth).find_map(|steps| first_trace(&domain.shop, &domain.run(), steps));
     let mut room = vec![0; 1 + 2 * depth];
     let (shop, order) = (&domain.shop_words, &domain.order_words);
-    let found = plain::search(shop, order, depth as u16, &mut room);
+    let found = plain::search(shop, order, depth as u32, &mut room);
     match expected {
         Some(steps) => {
             assert_eq!(found, Ok(steps.len()));
@@ -341,7 +345,7 @@ fn naive_search_case(random: &mut Random, tally: &mut Tally) {
         tally,
         random,
         (shop, order),
-        depth as u16,
+        depth as u32,
         room.len(),
         STEPS_TRIED,
     );
@@ -371,14 +375,15 @@ fn first_trace(shop: &plain::Shop, run: &Run<'_>, left: usize) -> Option<Vec<Ste
 }
 
 /// A depth, and mostly room for it.
-fn search_room(random: &mut Random) -> (u16, usize) {
+fn search_room(random: &mut Random) -> (u32, usize) {
     let depth = match random.below(20) {
-        0 => random.between(33, 40) as u16,
-        1 => random.word(),
-        2 => random.between(9, 32) as u16,
-        _ => random.between(0, 8) as u16,
+        0 => random.between(33, 40) as u32,
+        1 => u32::from(random.word()),
+        2 => random.pick(&WIDE_DEPTHS),
+        3 => random.between(9, 32) as u32,
+        _ => random.between(0, 8) as u32,
     };
-    let enough = 1 + 2 * usize::from(depth.min(40));
+    let enough = 1 + 2 * depth.min(40) as usize;
     let room = match random.below(20) {
         0 | 1 => random.below(enough),
         2 => enough - 1,
@@ -394,8 +399,8 @@ fn large_search_case(random: &mut Random, tally: &mut Tally) {
     let goals = random.pick(&[0, 1, 1, 2, 40]);
     let order = generate::order(random, shop.atoms, goals);
     let (shop, order) = (shop.words(), order.words());
-    let depth = random.between(0, 4) as u16;
-    let room = 1 + 2 * usize::from(depth);
+    let depth = random.between(0, 4) as u32;
+    let room = 1 + 2 * depth as usize;
     compare::search(tally, random, (&shop, &order), depth, room, STEPS_TRIED);
 }
 

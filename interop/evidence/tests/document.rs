@@ -95,6 +95,11 @@ fn searches() {
         (12, 65, (0, 10)),
         (9, 65, (43, 0)),
         (33, 100, (41, 0)),
+        // In their low 16 bits 0, 1, 32 and 65,535.
+        (65_536, 100, (41, 0)),
+        (65_537, 100, (41, 0)),
+        (65_568, 100, (41, 0)),
+        (u32::MAX, 100, (41, 0)),
         (10, 20, (42, 0)),
     ] {
         let sheets = (&shop[..], &order[..]);
@@ -111,8 +116,8 @@ fn searches_for_cores() {
     for (count, chained) in [(1, false), (2, true), (2, false), (3, true)] {
         let shop = cores::shop(count).words();
         let order = cores::order(count, chained).words();
-        let steps = count * cores::STEPS_A_CORE;
-        for (depth, expected) in [(steps, (0, u32::from(steps))), (steps - 1, (43, 0))] {
+        let steps = u32::from(count * cores::STEPS_A_CORE);
+        for (depth, expected) in [(steps, (0, steps)), (steps - 1, (43, 0))] {
             let sheets = (&shop[..], &order[..]);
             let answer = compare::search(&mut tally, &mut random, sheets, depth, 65, u64::MAX);
             let answer = answer.expect("no budget");

@@ -45,12 +45,12 @@ unsafe extern "C" {
         atoms: *mut [u8; 256],
     );
 
-    fn hgn_search(
+    fn hgn_search_2(
         shop: *const u16,
         shop_words: usize,
         order: *const u16,
         order_words: usize,
-        depth: u16,
+        depth: u32,
         room: *mut u16,
         room_words: usize,
         answer: *mut [u32; 2],
@@ -133,13 +133,13 @@ pub(crate) fn replay(shop: &[u16], order: &[u16], trace: &[u16], plan: &mut [u16
     }
 }
 
-pub(crate) fn search(shop: &[u16], order: &[u16], depth: u16, room: &mut [u16]) -> Answer {
+pub(crate) fn search(shop: &[u16], order: &[u16], depth: u32, room: &mut [u16]) -> Answer {
     let mut cells = [UNWRITTEN; 2];
     // SAFETY: the sheets' pointers and lengths are those of live slices, which
     // are only read; those of `room` are of a slice lent to us alone; `cells`
     // is two words of our own, borrowed for the call.
     unsafe {
-        hgn_search(
+        hgn_search_2(
             shop.as_ptr(),
             shop.len(),
             order.as_ptr(),

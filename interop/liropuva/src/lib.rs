@@ -189,7 +189,7 @@ pub fn replay(
 /// A `depth` above 32 is refused with 41, a `room` of fewer than `1 + 2 * depth`
 /// words with 42. The trace goes into the first words of `room`; the others are
 /// left alone, and so is all of it when the call is refused.
-pub fn search(shop: &[u16], order: &[u16], depth: u16, room: &mut [u16]) -> Result<Found, Refusal> {
+pub fn search(shop: &[u16], order: &[u16], depth: u32, room: &mut [u16]) -> Result<Found, Refusal> {
     let steps = search_answer(shop, order, depth, room).passed()?;
     Ok(Found {
         steps: steps as usize,
@@ -217,6 +217,6 @@ pub fn replay_answer(shop: &[u16], order: &[u16], trace: &[u16], plan: &mut [u16
 }
 
 /// [`search`] with the library's own answer.
-pub fn search_answer(shop: &[u16], order: &[u16], depth: u16, room: &mut [u16]) -> Answer {
+pub fn search_answer(shop: &[u16], order: &[u16], depth: u32, room: &mut [u16]) -> Answer {
     capi::search(shop, order, depth, room)
 }

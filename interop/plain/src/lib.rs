@@ -76,7 +76,7 @@ pub fn replay(
 
 /// Questions 1 to 9, 11 to 18 and 41 to 43. Gives the number of steps found;
 /// the trace is written only then.
-pub fn search(shop: &[u16], order: &[u16], depth: u16, room: &mut [u16]) -> Result<usize, Refusal> {
+pub fn search(shop: &[u16], order: &[u16], depth: u32, room: &mut [u16]) -> Result<usize, Refusal> {
     match search_within(shop, order, depth, room, Budget::unlimited()) {
         Ok(steps) => Ok(steps),
         Err(Stopped::Refused(refusal)) => Err(refusal),
@@ -88,7 +88,7 @@ pub fn search(shop: &[u16], order: &[u16], depth: u16, room: &mut [u16]) -> Resu
 pub fn search_within(
     shop: &[u16],
     order: &[u16],
-    depth: u16,
+    depth: u32,
     room: &mut [u16],
     budget: Budget,
 ) -> Result<usize, Stopped> {
@@ -97,12 +97,13 @@ pub fn search_within(
     if depth > MAX_DEPTH {
         return Err(Refusal::new(41, 0).into());
     }
-    if room.len() < 1 + 2 * usize::from(depth) {
+    let depth = depth as usize;
+    if room.len() < 1 + 2 * depth {
         return Err(Refusal::new(42, 0).into());
     }
     let shop = Shop::build(&shop);
     let order = Network::build(&order);
-    let steps = search::shortest(&shop, &order, usize::from(depth), budget)?;
+    let steps = search::shortest(&shop, &order, depth, budget)?;
     room[0] = steps.len() as u16;
     let (moves, places) = room[1..1 + 2 * steps.len()].split_at_mut(steps.len());
     for (i, step) in steps.iter().enumerate() {

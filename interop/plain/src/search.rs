@@ -11,7 +11,7 @@ use crate::run::{METHOD_0, Run};
 use crate::sheet::{MAX_GOALS, Refusal};
 
 /// The most steps a search may be asked for.
-pub const MAX_DEPTH: u16 = 32;
+pub const MAX_DEPTH: u32 = 32;
 
 /// How long a search may go on.
 #[derive(Clone, Copy, Debug)]

@@ -166,6 +166,8 @@ fn the_search_refuses() {
     assert_eq!(refusal(9, 65), refused(43, 0));
     assert_eq!(refusal(33, 65), refused(41, 0));
     assert_eq!(refusal(33, 0), refused(41, 0));
+    assert_eq!(refusal(65_536 + 10, 65), refused(41, 0));
+    assert_eq!(refusal(u32::MAX, 65), refused(41, 0));
     assert_eq!(refusal(10, 20), refused(42, 0));
     assert_eq!(refusal(0, 0), refused(42, 0));
     assert_eq!(room, [7; 65]);

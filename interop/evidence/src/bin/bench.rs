@@ -136,7 +136,7 @@ fn bench_replay(name: &str, shop: &Shop, order: &Order, steps: &[Step]) {
 type Outcome = (u32, usize, Vec<u16>);
 
 /// The plain search once, stopped at the deadline; with its outcome if it ended.
-fn plain_search_once(shop: &[u16], order: &[u16], depth: u16) -> (Time, Option<Outcome>) {
+fn plain_search_once(shop: &[u16], order: &[u16], depth: u32) -> (Time, Option<Outcome>) {
     let mut room = vec![0; liropuva::SEARCH_ROOM];
     let start = Instant::now();
     let budget = Budget::until(start + SEARCH_DEADLINE);
@@ -152,7 +152,7 @@ fn plain_search_once(shop: &[u16], order: &[u16], depth: u16) -> (Time, Option<O
 
 /// The proved search once. It cannot be stopped, so when it takes too long its
 /// thread is left behind.
-fn proved_search_once(shop: &[u16], order: &[u16], depth: u16) -> (Time, Option<Outcome>) {
+fn proved_search_once(shop: &[u16], order: &[u16], depth: u32) -> (Time, Option<Outcome>) {
     let (shop, order) = (shop.to_vec(), order.to_vec());
     let (send, receive) = mpsc::channel();
     thread::spawn(move || {
@@ -169,7 +169,7 @@ fn proved_search_once(shop: &[u16], order: &[u16], depth: u16) -> (Time, Option<
 }
 
 /// Gives false when the proved search was left running.
-fn bench_search(name: &str, shop: &Shop, order: &Order, depth: u16) -> bool {
+fn bench_search(name: &str, shop: &Shop, order: &Order, depth: u32) -> bool {
     let (shop, order) = (&shop.words()[..], &order.words()[..]);
     let (mut proved, proved_outcome) = proved_search_once(shop, order, depth);
     let (mut plain, plain_outcome) = plain_search_once(shop, order, depth);
@@ -380,14 +380,14 @@ fn hopeless_search() -> (Shop, Order) {
 }
 
 /// A search for this many cores.
-fn core_search(cores: u16, chained: bool, depth: u16) -> (String, Shop, Order, u16) {
+fn core_search(cores: u16, chained: bool, depth: u32) -> (String, Shop, Order, u32) {
     let number = ["one core", "two cores", "three cores"][usize::from(cores) - 1];
     let kind = match (cores, chained) {
         (1, _) => "",
         (_, true) => ", chained",
         (_, false) => ", unordered",
     };
-    let none = if depth < cores * cores::STEPS_A_CORE {
+    let none = if depth < u32::from(cores * cores::STEPS_A_CORE) {
         ", none"
     } else {
         ""

@@ -57,6 +57,7 @@ search-spec =
     (λ c.
     let s = begun (c .before .before) in
     room-short (shop s) (order s) (depth s) (room s) (passes (c .before .before)) (omega (arith, c .before .if2 .left)) (omega (arith, c .if3 .taken)))
+    (λ c. search needs)
     (λ c κs. (passes (asked c), few c))
     (λ c κs.
     let r = c .before .before .before .search-checked in
