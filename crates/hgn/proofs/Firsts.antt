@@ -6,7 +6,7 @@ use mathlib.Core.Path.{_≡_, refl, sym, ap, _∙_, subst}
 use mathlib.Core.Bool.{Bool, true, false, cond, false≢true}
 use mathlib.Core.Logic.{_↔_, _≢_}
 use mathlib.Core.List.{List, [], _∷_, _++_, map}
-use Rattle.hgn.specs.Questions.{Refusal, Question, _at_, placed, allAt, Verdict, passed, refused, firstNo, told, FirstNo, here, later, AllYes, none, more}
+use Rattle.hgn.specs.Questions.{Refusal, Question, _askedAt_, placed, allAt, Verdict, passed, refused, firstNo, told, FirstNo, here, later, AllYes, none, more}
 use Rattle.hgn.specs.Demands.{AnswersFirst}
 
 pub refused≢passed : {q : Refusal} → refused q ≡ passed → ⊥
@@ -67,7 +67,7 @@ first-at n [] = refl
 first-at n (q ∷ qs) = go (q .answer) (first-at n qs)
   where
     go : (b : Bool) → firstNo (allAt n qs) ≡ verdictAt n (firstNo qs)
-        → cond b (firstNo (map (λ q. q at n) qs)) (refused (placed n (q .refusal))) ≡ verdictAt n (cond b (firstNo qs) (refused (q .refusal)))
+        → cond b (firstNo (map (λ q. q askedAt n) qs)) (refused (placed n (q .refusal))) ≡ verdictAt n (cond b (firstNo qs) (refused (q .refusal)))
     go true ih = ih
     go false ih = refl
 
@@ -162,3 +162,25 @@ answers-first qs a U h t u = record { refused-iff = λ q. (to q, from q); passed
 pub told-tells : (v : Verdict) → Tells (told v) v
 told-tells passed = tells-passed refl
 told-tells (refused r) = tells-refusal
+
+-- What a call that told the first no of some questions does with more questions behind them.
+module _ (qs rest : List Question) (a : Refusal) (e : a ≡ told (firstNo qs)) where
+  -- Told 0, they passed.
+  pub told-passed : Numbers (λ k. k ≢ 0) qs → a .number ≡ 0 → firstNo qs ≡ passed
+  told-passed h z = go (firstNo qs) refl e
+    where
+      go : (v : Verdict) → firstNo qs ≡ v → a ≡ told v → firstNo qs ≡ passed
+      go passed f g = f
+      go (refused q) f g = absurd (refused-number (λ k. k ≢ 0) qs h q f (sym (ap (λ (r : Refusal). r .number) g) ∙ z))
+
+  -- Then the questions behind are asked.
+  pub told-on : Numbers (λ k. k ≢ 0) qs → a .number ≡ 0 → firstNo (qs ++ rest) ≡ firstNo rest
+  told-on h z = append-passed qs rest (told-passed h z)
+
+  -- Told another number, that stands.
+  pub told-stop : a .number ≢ 0 → a ≡ told (firstNo (qs ++ rest))
+  told-stop z = go (firstNo qs) refl e
+    where
+      go : (v : Verdict) → firstNo qs ≡ v → a ≡ told v → a ≡ told (firstNo (qs ++ rest))
+      go passed f g = absurd (z (ap (λ (r : Refusal). r .number) g))
+      go (refused q) f g = g ∙ ap told (sym (append-refused qs rest q f))

@@ -9,14 +9,14 @@ use Rattle.hgn.specs.Rows.{Row, rowQuestions}
 use Rattle.hgn.specs.Tag.{Context, Position, advance}
 use Rattle.hgn.specs.Meaning.{Method}
 use Rattle.hgn.specs.Run.{Step, Move, release, act, use-method, unknown, moveOf, Problem, Rules, moved, ownQuestions, stepQuestions, endQuestions, runQuestions}
-use Rattle.hgn.specs.Shop.{methodQuestions, shopQuestions}
-use Rattle.hgn.specs.Order.{orderQuestions}
+use Rattle.hgn.specs.Shop.{methodQuestions, shopEndQuestions, shopQuestions}
+use Rattle.hgn.specs.Order.{orderEndQuestions, orderQuestions}
 use Rattle.hgn.specs.Trace.{traceQuestions}
 use Rattle.hgn.specs.Replay.{inputQuestions, replayQuestions}
 use Rattle.hgn.proofs.Firsts.{Numbers, numbers-append, numbers-at}
 
 module _ (H : ℕ → Type 0) (given : (k : ℕ) → k < 42 → H (suc k)) where
-  rows-numbers : (follow : Context → List ℕ) (q F i : ℕ) (p : Position) (rows : List Row) → H q → H (q + 1) → H (q + 2)
+  pub rows-numbers : (follow : Context → List ℕ) (q F i : ℕ) (p : Position) (rows : List Row) → H q → H (q + 1) → H (q + 2)
       → Numbers H (rowQuestions follow q F i p rows)
   unfolding rowQuestions
   rows-numbers follow q F i p [] h₀ h₁ h₂ = tt
@@ -28,7 +28,7 @@ module _ (H : ℕ → Type 0) (given : (k : ℕ) → k < 42 → H (suc k)) where
   methods-numbers i (m ∷ ms) = (given 8 (omega arith), methods-numbers (suc i) ms)
 
   pub shop-numbers : (shop : List ℕ) → Numbers H (shopQuestions shop)
-  unfolding shopQuestions
+  unfolding shopQuestions shopEndQuestions
   shop-numbers shop = (
     given 0 (omega arith),
     (
@@ -43,7 +43,7 @@ module _ (H : ℕ → Type 0) (given : (k : ℕ) → k < 42 → H (suc k)) where
   )
 
   pub order-numbers : (shop sheet : List ℕ) → Numbers H (orderQuestions shop sheet)
-  unfolding orderQuestions
+  unfolding orderQuestions orderEndQuestions
   order-numbers shop sheet = (
     given 10 (omega arith),
     (

@@ -12,9 +12,9 @@ use Rattle.hgn.specs.Questions.{passed, firstNo}
 use Rattle.hgn.specs.Rows.{Row, rowQuestions, positionAfter}
 use Rattle.hgn.specs.Meaning.{Method}
 use Rattle.hgn.specs.Shop
-use Rattle.hgn.specs.Shop.{domain, shopQuestions, checkShop, nodeRules, methodQuestions}
+use Rattle.hgn.specs.Shop.{domain, shopEndQuestions, shopQuestions, checkShop, nodeRules, methodQuestions}
 use Rattle.hgn.specs.Order
-use Rattle.hgn.specs.Order.{order, orderQuestions, checkOrder}
+use Rattle.hgn.specs.Order.{order, orderEndQuestions, orderQuestions, checkOrder}
 use Rattle.hgn.specs.Trace.{stepCount, mostSteps, traceQuestions, checkTrace}
 use Rattle.hgn.proofs.Firsts.{passed-cons, passed-append, append-passed}
 
@@ -74,7 +74,7 @@ pub record ShopPassed (shop : List ℕ) : Type 0 where
   pub rules : (m : Method) → List·Memᴰ m (domain shop .methods) → nodeRules m ≡ true
 
 pub shop-passed : (shop : List ℕ) → checkShop shop ≡ passed → ShopPassed shop
-unfolding checkShop shopQuestions
+unfolding checkShop shopQuestions shopEndQuestions
 shop-passed shop e =
     let a = passed-cons _ _ e in
     let b = passed-cons _ _ (a .1) in
@@ -95,7 +95,7 @@ shop-passed shop e =
     }
 
 pub passed-shop : (shop : List ℕ) → ShopPassed shop → checkShop shop ≡ passed
-unfolding checkShop shopQuestions firstNo
+unfolding checkShop shopQuestions shopEndQuestions firstNo
 passed-shop shop h =
     rw (
       le-leb 4 (length shop) (h .long),
@@ -119,7 +119,7 @@ pub record OrderPassed (shop sheet : List ℕ) : Type 0 where
   pub goal-count : length (order sheet .goals) ≡ Order.goalCount sheet
 
 pub order-passed : (shop sheet : List ℕ) → checkOrder shop sheet ≡ passed → OrderPassed shop sheet
-unfolding checkOrder orderQuestions
+unfolding checkOrder orderQuestions orderEndQuestions
 order-passed shop sheet e =
     let a = passed-cons _ _ (passed-append (shopQuestions shop) _ e .1) in
     let b = passed-cons _ _ (a .1) in
@@ -137,7 +137,7 @@ order-passed shop sheet e =
     }
 
 pub passed-order : (shop sheet : List ℕ) → checkShop shop ≡ passed → OrderPassed shop sheet → checkOrder shop sheet ≡ passed
-unfolding checkOrder checkShop orderQuestions firstNo
+unfolding checkOrder checkShop orderQuestions orderEndQuestions firstNo
 passed-order shop sheet e h =
     append-passed (shopQuestions shop) _ e
     ∙ rw (

@@ -36,17 +36,21 @@ unfoldable pub sizesInRange : List ℕ → List ℕ → Bool
 sizesInRange shop sheet =
     eqb (atomCount sheet) (Shop.atomCount shop) && leb (goalCount sheet) mostWaiting && leb (rowCount sheet) mostRows
 
--- "Order: the same with at least 3 words? 11. F the shop's, G and N in range? 12. Length 3 + 2N? 13. Rows 14, 15, 16 (at the row).
--- May it end here? 17. G nodes? 18."
+-- "May it end here? 17. G nodes? 18."
+unfoldable pub orderEndQuestions : List ℕ → List Question
+orderEndQuestions sheet =
+    17 asks mayEnd (positionAfter opening (orderRows sheet) .context)
+    ∷ 18 asks eqb (length (order sheet .goals)) (goalCount sheet)
+    ∷ []
+
+-- "Order: the same with at least 3 words? 11. F the shop's, G and N in range? 12. Length 3 + 2N? 13. Rows 14, 15, 16 (at the row)." Then 17
+-- and 18.
 unfoldable pub orderQuestions : List ℕ → List ℕ → List Question
 orderQuestions shop sheet =
     11 asks leb sizeWords (length sheet)
     ∷ 12 asks sizesInRange shop sheet
     ∷ 13 asks eqb (length sheet) (sizeWords + 2 * rowCount sheet)
-    ∷ rowQuestions orderFollow 14 (atomCount sheet) 0 opening (orderRows sheet)
-    ++ (17 asks mayEnd (positionAfter opening (orderRows sheet) .context)
-    ∷ 18 asks eqb (length (order sheet .goals)) (goalCount sheet)
-    ∷ [])
+    ∷ rowQuestions orderFollow 14 (atomCount sheet) 0 opening (orderRows sheet) ++ orderEndQuestions sheet
 
 -- "Every call asks about all its sheets, in this order, and stops at the first no."
 unfoldable pub checkOrder : List ℕ → List ℕ → Verdict

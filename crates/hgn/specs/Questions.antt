@@ -14,7 +14,7 @@ pub record Question : Type 0 where
   pub refusal : Refusal  -- what is told where the answer is no
   pub answer : Bool  -- true is yes
 
-infixl 68 _asks_ _at_
+infixl 68 _asks_ _askedAt_
 -- The question of this number, with no place of its own.
 abbrev pub _asks_ : ℕ → Bool → Question
 number asks answer = record { refusal = record { number = number; place = 0 }; answer = answer }
@@ -24,12 +24,12 @@ abbrev pub placed : ℕ → Refusal → Refusal
 placed place r = record { number = r .number; place = place }
 
 -- The same question at a place.
-abbrev pub _at_ : Question → ℕ → Question
-q at place = record { refusal = placed place (q .refusal); answer = q .answer }
+abbrev pub _askedAt_ : Question → ℕ → Question
+q askedAt place = record { refusal = placed place (q .refusal); answer = q .answer }
 
 -- These questions, all at one place.
 unfoldable pub allAt : ℕ → List Question → List Question
-allAt place qs = map (λ q. q at place) qs
+allAt place qs = map (λ q. q askedAt place) qs
 
 -- What a list of questions comes to.
 pub data Verdict : Type 0 where

@@ -6,7 +6,7 @@ use mathlib.Core.List.{List, [], _∷_, zipWith}
 use lib.Dec.{eqb}
 use lib.ListN.{take, drop, getD}
 use Rattle.hgn.specs.Lists.{among}
-use Rattle.hgn.specs.Questions.{Question, _asks_, _at_}
+use Rattle.hgn.specs.Questions.{Question, _asks_, _askedAt_}
 use Rattle.hgn.specs.Tag.{Context, Position, advance, inRange, rises}
 
 pub record Row : Type 0 where
@@ -43,9 +43,9 @@ valuesOf t (r ∷ rs) = cond (has t r) (r .value ∷ valuesOf t rs) (valuesOf t 
 unfoldable pub rowQuestions : (Context → List ℕ) → ℕ → ℕ → ℕ → Position → List Row → List Question
 rowQuestions follow q F i p [] = []
 rowQuestions follow q F i p (r ∷ rs) =
-    q asks among (r .tag) (follow (p .context)) at i
-    ∷ (q + 1) asks inRange F p (r .tag) (r .value) at i
-    ∷ (q + 2) asks rises p (r .tag) (r .value) at i
+    q asks among (r .tag) (follow (p .context)) askedAt i
+    ∷ (q + 1) asks inRange F p (r .tag) (r .value) askedAt i
+    ∷ (q + 2) asks rises p (r .tag) (r .value) askedAt i
     ∷ rowQuestions follow q F (suc i) (advance p (r .tag) (r .value)) rs
 
 -- Where the sheet stands after these rows.

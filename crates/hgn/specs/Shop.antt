@@ -4,7 +4,7 @@ use mathlib.Core.Bool.{Bool, _&&_}
 use mathlib.Core.List.{List, [], _∷_, _++_}
 use lib.Dec.{eqb, leb}
 use lib.ListN.{length}
-use Rattle.hgn.specs.Questions.{Question, _asks_, _at_, Verdict, firstNo}
+use Rattle.hgn.specs.Questions.{Question, _asks_, _askedAt_, Verdict, firstNo}
 use Rattle.hgn.specs.Rows.{Row, word, rowsOf, mostRows, rowQuestions, positionAfter}
 use Rattle.hgn.specs.Tag.{shopFollow, opening, mayEnd}
 use Rattle.hgn.specs.Meaning.{Domain, Method, domainOf, lastOf}
@@ -60,19 +60,22 @@ nodeRules m =
 -- "Each method within its node rules? 9 (at the number, from 0, of the first method that isn't)": `i` is the method.
 unfoldable pub methodQuestions : ℕ → List Method → List Question
 methodQuestions i [] = []
-methodQuestions i (m ∷ ms) = 9 asks nodeRules m at i ∷ methodQuestions (suc i) ms
+methodQuestions i (m ∷ ms) = 9 asks nodeRules m askedAt i ∷ methodQuestions (suc i) ms
 
--- "Shop: at least 4 words long? 1. F, K, M, N in range? 2. Length 4 + 2N? 3. Then row by row [4 to 6]. Then: may it end here? 7.
--- K actions and M methods? 8. Each method within its node rules? 9".
+-- "Then: may it end here? 7. K actions and M methods? 8. Each method within its node rules? 9".
+unfoldable pub shopEndQuestions : List ℕ → List Question
+shopEndQuestions shop =
+    7 asks mayEnd (positionAfter opening (shopRows shop) .context)
+    ∷ 8 asks (eqb (length (domain shop .actions)) (actionCount shop) && eqb (length (domain shop .methods)) (methodCount shop))
+    ∷ methodQuestions 0 (domain shop .methods)
+
+-- "Shop: at least 4 words long? 1. F, K, M, N in range? 2. Length 4 + 2N? 3. Then row by row" 4 to 6, then 7 to 9.
 unfoldable pub shopQuestions : List ℕ → List Question
 shopQuestions shop =
     1 asks leb sizeWords (length shop)
     ∷ 2 asks sizesInRange shop
     ∷ 3 asks eqb (length shop) (sizeWords + 2 * rowCount shop)
-    ∷ rowQuestions shopFollow 4 (atomCount shop) 0 opening (shopRows shop)
-    ++ (7 asks mayEnd (positionAfter opening (shopRows shop) .context)
-    ∷ 8 asks (eqb (length (domain shop .actions)) (actionCount shop) && eqb (length (domain shop .methods)) (methodCount shop))
-    ∷ methodQuestions 0 (domain shop .methods))
+    ∷ rowQuestions shopFollow 4 (atomCount shop) 0 opening (shopRows shop) ++ shopEndQuestions shop
 
 unfoldable pub checkShop : List ℕ → Verdict
 checkShop shop = firstNo (shopQuestions shop)

@@ -13,7 +13,7 @@ use borrow.Author.Tests.{eqb-true, le-leb}
 use Rattle.hgn.specs.Lists.{keep, upTo, parts}
 use Rattle.hgn.specs.Rows.{Row, row, has, valuesOf}
 use Rattle.hgn.specs.Meaning.{Node, Domain, nodeOf, nodesOf, methodOf, opens, headed, domainOf, lastOf}
-use Rattle.hgn.specs.Verdict.{Verdict, passed, refused, ask}
+use Rattle.hgn.specs.Questions.{_asks_, _askedAt_, Verdict, passed, refused, firstNo}
 use Rattle.hgn.specs.Shop.{nodeRules, methodQuestions}
 use Rattle.scan.specs.declared.tally.Tally.{Tally}
 use Rattle.scan.specs.Tally.{nothing, withinRules, noted, closed, withAction, withMethod, withCounts, counted, countedRows, foundIn, Within, Small}
@@ -145,16 +145,16 @@ method-counted t v rs = rw (rows-counted (withMethod t) rs) (go _ _ (nodesOf (up
 -- else what the rest answers.
 answered : Tally → Bool → Verdict → Verdict
 answered t within rest =
-    cond (t .found) (refused 9 (t .first))
-    (cond (t .opened && leb 1 (t .methods)) (ask within 9 (t .methods - 1) rest) rest)
+    cond (t .found) (refused ((9 asks false askedAt t .first) .refusal))
+    (cond (t .opened && leb 1 (t .methods)) (cond within rest (refused ((9 asks false askedAt (t .methods - 1)) .refusal))) rest)
 
 closed-answered : (t : Tally) (rest : Verdict)
-    → cond (closed t .found) (refused 9 (closed t .first)) rest ≡ answered t (withinRules t) rest
-unfolding closed noted answered ask
+    → cond (closed t .found) (refused ((9 asks false askedAt closed t .first) .refusal)) rest ≡ answered t (withinRules t) rest
+unfolding closed noted answered
 closed-answered t rest = go (t .opened) (t .found) (withinRules t) (leb 1 (t .methods)) refl refl refl refl
   where
     go : (o f w m : Bool) → t .opened ≡ o → t .found ≡ f → withinRules t ≡ w → leb 1 (t .methods) ≡ m
-        → cond (closed t .found) (refused 9 (closed t .first)) rest ≡ answered t (withinRules t) rest
+        → cond (closed t .found) (refused ((9 asks false askedAt closed t .first) .refusal)) rest ≡ answered t (withinRules t) rest
     go false f w m p q r s = rw p
     go true true w m p q r s = rw (p, q)
     go true false true true p q r s = rw (r, s, p, q)
@@ -165,15 +165,15 @@ closed-answered t rest = go (t .opened) (t .found) (withinRules t) (leb 1 (t .me
 -- The open method's rows end at the next action or method; then come the methods of the other rows.
 rules-from : (t : Tally) (rs : List Row)
     → foundIn (closed (countedRows t rs))
-    ≡ answered t (withinRules (countedRows t (upTo opens rs))) (methodQuestions (t .methods) (domainOf rs .methods))
-unfolding foundIn answered countedRows counted withAction withMethod withCounts upTo domainOf keep parts headed methodQuestions
+    ≡ answered t (withinRules (countedRows t (upTo opens rs))) (firstNo (methodQuestions (t .methods) (domainOf rs .methods)))
+unfolding foundIn answered countedRows counted withAction withMethod withCounts upTo domainOf keep parts headed methodQuestions firstNo
 rules-from t [] = closed-answered t passed
 rules-from t (r ∷ rs) =
     by-tag
     (λ k.
     let rows = row k (r .value) ∷ rs in
     foundIn (closed (countedRows (counted t k) rs))
-    ≡ answered t (withinRules (countedRows t (upTo opens rows))) (methodQuestions (t .methods) (domainOf rows .methods)))
+    ≡ answered t (withinRules (countedRows t (upTo opens rows))) (firstNo (methodQuestions (t .methods) (domainOf rows .methods))))
     (rules-from (withAction (closed t)) rs ∙ rw (closed-keeps t .1) (closed-answered t _))
     (rules-from (withMethod (closed t)) rs
     ∙ rw (method-counted (closed t) (r .value) rs, closed-keeps t .1, le-leb 1 (suc (t .methods)) (omega arith), sub-one (suc (t .methods)))
@@ -185,6 +185,6 @@ rules-from t (r ∷ rs) =
     (r .tag)
 
 -- Question 9: the tally finds the first method that is not within its node rules.
-pub rules-counted : (rows : List Row) → foundIn (closed (countedRows nothing rows)) ≡ methodQuestions 0 (domainOf rows .methods)
+pub rules-counted : (rows : List Row) → foundIn (closed (countedRows nothing rows)) ≡ firstNo (methodQuestions 0 (domainOf rows .methods))
 unfolding answered
 rules-counted rows = rules-from nothing rows

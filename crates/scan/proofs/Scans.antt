@@ -9,10 +9,10 @@ use lib.Dec.{eqb}
 use lib.ListN.{length, getD, drop, drop-of-length-le}
 use lib.Seq.{drop-cons}
 use Rattle.hgn.specs.Lists.{among}
-use Rattle.hgn.specs.Rows.{Row, row}
+use Rattle.hgn.specs.Rows.{Row, row, rowQuestions, positionAfter}
 use Rattle.hgn.specs.Tag as Tag
-use Rattle.hgn.specs.Verdict as Verdict
-use Rattle.hgn.specs.Verdict.{rowQuestions, positionAfter}
+use Rattle.hgn.specs.Questions as Questions
+use Rattle.hgn.specs.Questions.{_asks_, _askedAt_, firstNo}
 use Rattle.reading.specs.Reading.{followOf, firstQuestionOf, positionOf, next, refused, rowReading}
 use Rattle.scan.specs.Tally.{nothing, counted, countedRows, Within}
 use Rattle.scan.specs.Scanned.{questionsOf}
@@ -25,31 +25,42 @@ use Rattle.scan.proofs.Counts.{within-nothing, within-counted}
 
 -- What the three questions of a row come to is what the questions of the rows from there on begin with.
 module _ (follow : Tag.Context → List ℕ) (q F i : ℕ) (p : Tag.Position) (t v : ℕ) (rest : List Row) where
+  -- The rest where these three answers are yes, else the first no.
+  row-first : Bool → Bool → Bool → Questions.Verdict
+  row-first a b c =
+      cond a
+      (cond b
+      (cond c (firstNo (rowQuestions follow q F (suc i) (Tag.advance p t v) rest)) (Questions.refused (((q + 2) asks false askedAt i) .refusal)))
+      (Questions.refused (((q + 1) asks false askedAt i) .refusal)))
+      (Questions.refused ((q asks false askedAt i) .refusal))
+
   pub row-next : (p′ : Tag.Position) → next p′ ≡ rowReading follow q F p t v
-      → (rowQuestions follow q F i p (row t v ∷ rest) ≡ rowQuestions follow q F (suc i) p′ rest) × (p′ ≡ Tag.advance p t v)
-  unfolding rowQuestions Verdict.ask rowReading
+      → (firstNo (rowQuestions follow q F i p (row t v ∷ rest)) ≡ firstNo (rowQuestions follow q F (suc i) p′ rest)) × (p′ ≡ Tag.advance p t v)
+  unfolding rowQuestions firstNo rowReading row-first
   row-next p′ = go (among t (follow (p .context))) (Tag.inRange F p t v) (Tag.rises p t v)
     where
       go : (a b c : Bool) → next p′ ≡ cond a (cond b (cond c (next (Tag.advance p t v)) (refused (q + 2))) (refused (q + 1))) (refused q)
-          → (Verdict.ask a q i (Verdict.ask b (q + 1) i (Verdict.ask c (q + 2) i (rowQuestions follow q F (suc i) (Tag.advance p t v) rest)))
-          ≡ rowQuestions follow q F (suc i) p′ rest) × (p′ ≡ Tag.advance p t v)
-      go true true true e = let z : p′ ≡ Tag.advance p t v = cc in (ap (λ (x : Tag.Position). rowQuestions follow q F (suc i) x rest) (sym z), z)
+          → (row-first a b c ≡ firstNo (rowQuestions follow q F (suc i) p′ rest)) × (p′ ≡ Tag.advance p t v)
+      go true true true e =
+          let z : p′ ≡ Tag.advance p t v = cc in (ap (λ (x : Tag.Position). firstNo (rowQuestions follow q F (suc i) x rest)) (sym z), z)
       go true true false e = let z : _≡_ {A = ℕ} 0 1 = cc in absurd (omega arith)
       go true false c e = let z : _≡_ {A = ℕ} 0 1 = cc in absurd (omega arith)
       go false b c e = let z : _≡_ {A = ℕ} 0 1 = cc in absurd (omega arith)
 
   pub row-refused : (number : ℕ) → refused number ≡ rowReading follow q F p t v
-      → (rowQuestions follow q F i p (row t v ∷ rest) ≡ Verdict.refused number i) × (q ≤ number)
-  unfolding rowQuestions Verdict.ask rowReading
+      → (firstNo (rowQuestions follow q F i p (row t v ∷ rest)) ≡ Questions.refused ((number asks false askedAt i) .refusal)) × (q ≤ number)
+  unfolding rowQuestions firstNo rowReading row-first
   row-refused number = go (among t (follow (p .context))) (Tag.inRange F p t v) (Tag.rises p t v)
     where
+      by : {k : ℕ} → number ≡ k → Questions.refused ((k asks false askedAt i) .refusal) ≡ Questions.refused ((number asks false askedAt i) .refusal)
+      by z = ap (λ (k : ℕ). Questions.refused ((k asks false askedAt i) .refusal)) (sym z)
+
       go : (a b c : Bool) → refused number ≡ cond a (cond b (cond c (next (Tag.advance p t v)) (refused (q + 2))) (refused (q + 1))) (refused q)
-          → (Verdict.ask a q i (Verdict.ask b (q + 1) i (Verdict.ask c (q + 2) i (rowQuestions follow q F (suc i) (Tag.advance p t v) rest)))
-          ≡ Verdict.refused number i) × (q ≤ number)
+          → (row-first a b c ≡ Questions.refused ((number asks false askedAt i) .refusal)) × (q ≤ number)
       go true true true e = let z : _≡_ {A = ℕ} 0 1 = cc in absurd (omega arith)
-      go true true false e = let z : number ≡ q + 2 = cc in (ap (λ (k : ℕ). Verdict.refused k i) (sym z), omega arith)
-      go true false c e = let z : number ≡ q + 1 = cc in (ap (λ (k : ℕ). Verdict.refused k i) (sym z), omega arith)
-      go false b c e = let z : number ≡ q = cc in (ap (λ (k : ℕ). Verdict.refused k i) (sym z), omega arith)
+      go true true false e = let z : number ≡ q + 2 = cc in (by z, omega arith)
+      go true false c e = let z : number ≡ q + 1 = cc in (by z, omega arith)
+      go false b c e = let z : number ≡ q = cc in (by z, omega arith)
 
 -- A row adds at most one node.
 nodes-advance : (p : Tag.Position) (t v : ℕ) → Tag.advance p t v .nodes ≤ suc (p .nodes)
@@ -68,7 +79,7 @@ first≢0 Order = omega arith
 -- Rows 0 to `i` less 1 have passed and led to this position and these counts.
 pub record Going (sheet : Sheet) (F : ℕ) (rs : List Row) (i : ℕ) (p : Position) (t : Tally) : Type 0 where
   pub inside : i ≤ length rs
-  pub questions : questionsOf sheet F rs ≡ rowQuestions (followOf sheet) (firstQuestionOf sheet) F i (positionOf p) (drop i rs)
+  pub questions : firstNo (questionsOf sheet F rs) ≡ firstNo (rowQuestions (followOf sheet) (firstQuestionOf sheet) F i (positionOf p) (drop i rs))
   pub position : positionAfter Tag.opening rs ≡ positionAfter (positionOf p) (drop i rs)
   pub tally : countedRows nothing rs ≡ countedRows t (drop i rs)
   pub nodes : p .nodes ≤ i
@@ -78,7 +89,7 @@ module _ (sheet : Sheet) (F : ℕ) (rs : List Row) where
   pub going-start : (p : Position) (t : Tally) → positionOf p ≡ Tag.opening → t ≡ nothing → Going sheet F rs 0 p t
   going-start p t e d = record {
     inside = omega arith;
-    questions = ap (λ (x : Tag.Position). rowQuestions (followOf sheet) (firstQuestionOf sheet) F 0 x rs) (sym e);
+    questions = ap (λ (x : Tag.Position). firstNo (rowQuestions (followOf sheet) (firstQuestionOf sheet) F 0 x rs)) (sym e);
     position = ap (λ (x : Tag.Position). positionAfter x rs) (sym e);
     tally = ap (λ (x : Tally). countedRows x rs) (sym d);
     nodes = omega (arith, ap (λ (x : Tag.Position). x .nodes) e);
@@ -98,9 +109,9 @@ module _ (sheet : Sheet) (F : ℕ) (rs : List Row) where
           inside = omega arith;
           questions =
               g .questions
-              ∙ ap (rowQuestions (followOf sheet) (firstQuestionOf sheet) F i (positionOf p)) rest
+              ∙ ap (λ (l : List Row). firstNo (rowQuestions (followOf sheet) (firstQuestionOf sheet) F i (positionOf p) l)) rest
               ∙ r .0
-              ∙ ap (λ (k : ℕ). rowQuestions (followOf sheet) (firstQuestionOf sheet) F k (positionOf p′) (drop (i + 1) rs)) (sym (add-one i));
+              ∙ ap (λ (k : ℕ). firstNo (rowQuestions (followOf sheet) (firstQuestionOf sheet) F k (positionOf p′) (drop (i + 1) rs))) (sym (add-one i));
           position =
               g .position
               ∙ ap (positionAfter (positionOf p)) rest
@@ -112,17 +123,19 @@ module _ (sheet : Sheet) (F : ℕ) (rs : List Row) where
         }
 
     pub going-refused : (number : ℕ) → refused number ≡ rowReading (followOf sheet) (firstQuestionOf sheet) F (positionOf p) tag value
-        → (questionsOf sheet F rs ≡ Verdict.refused number i) × (1 ≤ number)
+        → (firstNo (questionsOf sheet F rs) ≡ Questions.refused ((number asks false askedAt i) .refusal)) × (1 ≤ number)
     going-refused number e =
-        let r = row-refused (followOf sheet) (firstQuestionOf sheet) F i (positionOf p) tag value (drop (i + 1) rs) number e in
-        (g .questions ∙ ap (rowQuestions (followOf sheet) (firstQuestionOf sheet) F i (positionOf p)) rest ∙ r .0, omega (arith, first≢0 sheet, r .1))
+        let r = row-refused (followOf sheet) (firstQuestionOf sheet) F i (positionOf p) tag value (drop (i + 1) rs) number e in (
+          g .questions ∙ ap (λ (l : List Row). firstNo (rowQuestions (followOf sheet) (firstQuestionOf sheet) F i (positionOf p) l)) rest ∙ r .0,
+          omega (arith, first≢0 sheet, r .1),
+        )
 
   pub going-end : (i : ℕ) (p : Position) (t : Tally) → Going sheet F rs i p t → length rs ≤ i
-      → (questionsOf sheet F rs ≡ Verdict.passed) × (positionOf p ≡ positionAfter Tag.opening rs) × (t ≡ countedRows nothing rs)
-  unfolding rowQuestions positionAfter countedRows
+      → (firstNo (questionsOf sheet F rs) ≡ Questions.passed) × (positionOf p ≡ positionAfter Tag.opening rs) × (t ≡ countedRows nothing rs)
+  unfolding rowQuestions firstNo positionAfter countedRows
   going-end i p t g h =
       let e = drop-of-length-le rs h in (
-        g .questions ∙ ap (rowQuestions (followOf sheet) (firstQuestionOf sheet) F i (positionOf p)) e,
+        g .questions ∙ ap (λ (l : List Row). firstNo (rowQuestions (followOf sheet) (firstQuestionOf sheet) F i (positionOf p) l)) e,
         sym (g .position ∙ ap (positionAfter (positionOf p)) e),
         sym (g .tally ∙ ap (countedRows t) e),
       )

@@ -2,21 +2,21 @@
 use Prim.Native.Nat.{ℕ}
 use mathlib.Core.Path.{_≡_}
 use mathlib.Core.List.{List}
-use Rattle.hgn.specs.Rows.{Row}
+use Rattle.hgn.specs.Questions.{Question, firstNo, told}
+use Rattle.hgn.specs.Rows.{Row, rowQuestions, positionAfter}
 use Rattle.hgn.specs.Tag.{opening}
-use Rattle.hgn.specs.Verdict.{Verdict, numberOf, placeOf, rowQuestions, positionAfter}
 use Rattle.reading.specs.Reading.{followOf, firstQuestionOf, positionOf}
+use Rattle.reading.specs.Refusals.{refusalOf}
 use Rattle.scan.specs.Tally.{nothing, countedRows}
 use Rattle.reading.specs.declared.position.Sheet.{Sheet}
 use Rattle.scan.specs.declared.rows.Scan.{Scan}
 
 -- The questions of these rows.
-abbrev pub questionsOf : Sheet → ℕ → List Row → Verdict
+abbrev pub questionsOf : Sheet → ℕ → List Row → List Question
 questionsOf sheet atoms rows = rowQuestions (followOf sheet) (firstQuestionOf sheet) atoms 0 opening rows
 
 -- Refused, the position and the counts are left free.
 pub record Scanned (sheet : Sheet) (atoms : ℕ) (rows : List Row) (r : Scan) : Type 0 where
-  pub number : r .number ≡ numberOf (questionsOf sheet atoms rows)
-  pub place : r .place ≡ placeOf (questionsOf sheet atoms rows)
-  pub position : r .number ≡ 0 → positionOf (r .position) ≡ positionAfter opening rows
-  pub tally : r .number ≡ 0 → r .tally ≡ countedRows nothing rows
+  pub refusal : refusalOf (r .refusal) ≡ told (firstNo (questionsOf sheet atoms rows))
+  pub position : r .refusal .number ≡ 0 → positionOf (r .position) ≡ positionAfter opening rows
+  pub tally : r .refusal .number ≡ 0 → r .tally ≡ countedRows nothing rows

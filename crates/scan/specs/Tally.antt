@@ -6,7 +6,7 @@ use lib.Dec.{eqb, leb}
 use Rattle.hgn.specs.Tag as Tag
 use Rattle.hgn.specs.Rows.{Row}
 use Rattle.hgn.specs.Shop.{mostNodes}
-use Rattle.hgn.specs.Verdict.{Verdict, passed, refused}
+use Rattle.hgn.specs.Questions.{Verdict, passed, refused, _asks_, _askedAt_}
 use Rattle.scan.specs.declared.tally.Tally.{Tally}
 
 abbrev pub nothing : Tally
@@ -91,9 +91,9 @@ unfoldable pub countedRows : Tally → List Row → Tally
 countedRows t [] = t
 countedRows t (r ∷ rs) = countedRows (counted t (r .tag)) rs
 
--- The answer to question 9, once the last method is closed: 9, at the number of the first method that was noted.
+-- The answer to question 9, once the last method is closed: no, at the number of the first method that was noted.
 unfoldable pub foundIn : Tally → Verdict
-foundIn t = cond (t .found) (refused 9 (t .first)) passed
+foundIn t = cond (t .found) (refused ((9 asks false askedAt t .first) .refusal)) passed
 
 -- Every count is at most `n`.
 pub record Within (n : ℕ) (t : Tally) : Type 0 where

@@ -3,10 +3,14 @@ use crate::tally::Tally;
 use reading::position::Position;
 use reading::position::Reading;
 use reading::position::Sheet;
+use reading::refusal::Refusal;
 ghost use mathlib.Core.Path.{_≡_};
+ghost use mathlib.Core.Bool.{false};
 ghost use Prim.Native.Nat.{_+_, _<_, _≤_};
 ghost use lib.ListN.{length, getD};
+ghost use Rattle.hgn.specs.Questions.{_asks_, _askedAt_, passed, told};
 ghost use Rattle.hgn.specs.Rows.{rowsOf};
+ghost use Rattle.reading.specs.Refusals.{refusalOf};
 ghost use Rattle.scan.specs.Scanned.{Scanned};
 
 // A row by its number, from 0.
@@ -18,13 +22,39 @@ pub struct Layout {
     pub rows: usize,
 }
 
-// What one pass over the rows comes to: 0 with the position at the end and what was counted, or the first question that fails and
-// its row; then position and counts are left free.
+// What one pass over the rows comes to: no refusal, with the position at the end and what was counted, or the first question that fails,
+// at its row; then position and counts are left free.
 pub struct Scan {
-    pub number: u16,
-    pub place: u16,
+    pub refusal: Refusal,
     pub position: Position,
     pub tally: Tally,
+}
+
+impl Scan {
+    // Every row passed.
+    fn passed(position: Position, tally: Tally) -> Scan
+        ensures { λ r. ⌜ (refusalOf (r .refusal) ≡ told passed) × (r .position ≡ position) × (r .tally ≡ tally) ⌝ }
+    {
+        let refusal = Refusal::none();
+        Scan {
+            refusal: refusal,
+            position: position,
+            tally: tally,
+        }
+    }
+
+    // The question of this number failed at a row.
+    fn refused(number: u16, row: u16, position: Position, tally: Tally) -> Scan
+        ensures { λ r. ⌜ refusalOf (r .refusal) ≡ (number asks false askedAt row) .refusal ⌝ }
+    {
+        let unplaced = Refusal::by(number);
+        let refusal = unplaced.at(row);
+        Scan {
+            refusal: refusal,
+            position: position,
+            tally: tally,
+        }
+    }
 }
 
 // A word of a sheet; 0 past its end.
@@ -83,21 +113,11 @@ impl Layout {
                     }
                     Reading::Refused(number) => {
                         let place = row as u16;
-                        return Scan {
-                            number: number,
-                            place: place,
-                            position: position,
-                            tally: tally,
-                        };
+                        return Scan::refused(number, place, position, tally);
                     }
                 }
             }
         }
-        Scan {
-            number: 0,
-            place: 0,
-            position: position,
-            tally: tally,
-        }
+        Scan::passed(position, tally)
     }
 }

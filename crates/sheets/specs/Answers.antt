@@ -1,22 +1,22 @@
--- The checks' answers, and what is asked of a sheet before and after its rows. Document 01, "Questions".
+-- What is asked of a sheet before and after its rows, as the checks' functions share it. Document 01, "Questions".
 use Prim.Native.Nat.{ℕ}
-use mathlib.Core.Bool.{Bool, cond, _&&_}
+use mathlib.Core.Path.{_≡_}
+use mathlib.Core.Bool.{Bool, _&&_}
+use mathlib.Core.List.{List, _++_}
 use lib.Dec.{eqb, leb}
-use Rattle.hgn.specs.Tag.{mayEnd}
+use Rattle.hgn.specs.Questions.{firstNo, told}
 use Rattle.hgn.specs.Rows.{mostRows}
 use Rattle.hgn.specs.State.{mostAtoms}
 use Rattle.hgn.specs.Network.{mostWaiting}
-use Rattle.hgn.specs.Shop.{mostActions, mostMethods}
-use Rattle.hgn.specs.Verdict as Hgn
-use Rattle.hgn.specs.Verdict.{passed, refused, ask, numberOf, placeOf}
-use Rattle.reading.specs.Reading.{positionOf}
-use Rattle.scan.specs.Tally.{closed, foundIn}
-use Rattle.sheets.specs.declared.check.Verdict.{Verdict}
+use Rattle.hgn.specs.Shop as Shop
+use Rattle.hgn.specs.Shop.{mostActions, mostMethods, shopRows, shopEndQuestions}
+use Rattle.hgn.specs.Order as Order
+use Rattle.hgn.specs.Order.{orderRows, orderEndQuestions}
+use Rattle.reading.specs.Refusals.{refusalOf}
+use Rattle.reading.specs.declared.position.Sheet.the-variants as Of
+use Rattle.reading.specs.declared.refusal.Refusal.{Refusal}
+use Rattle.scan.specs.Scanned.{Scanned, questionsOf}
 use Rattle.scan.specs.declared.rows.Scan.{Scan}
-
--- A check's answer: number and place, 0 and 0 when passed.
-abbrev pub answerOf : Hgn.Verdict → Verdict
-answerOf v = record { number = numberOf v; place = placeOf v }
 
 -- The sizes of a shop sheet in range, and of an order sheet.
 unfoldable pub shopSizes : ℕ → ℕ → ℕ → ℕ → Bool
@@ -26,20 +26,13 @@ shopSizes atoms actions methods rows =
 unfoldable pub orderSizes : ℕ → ℕ → ℕ → ℕ → Bool
 orderSizes shop-atoms atoms goals rows = eqb atoms shop-atoms && leb goals mostWaiting && leb rows mostRows
 
--- After the rows of a shop sheet: their refusal, or 7, 8 and 9.
-unfoldable pub shopEnd : Scan → ℕ → ℕ → Hgn.Verdict
-shopEnd s actions methods =
-    cond (eqb (s .number) 0)
-    (ask (mayEnd (positionOf (s .position) .context)) 7 0
-    (ask (eqb (s .tally .actions) actions && eqb (s .tally .methods) methods) 8 0
-    (foundIn (closed (s .tally)))))
-    (refused (s .number) (s .place))
+-- Of any shop sheet of which the rows came to this scan: the first no from its rows on.
+abbrev pub ShopEnds : Scan → ℕ → ℕ → Refusal → Type 0
+ShopEnds s actions methods r = (shop : List ℕ) → Scanned Of.Shop (Shop.atomCount shop) (shopRows shop) s
+    → Shop.actionCount shop ≡ actions → Shop.methodCount shop ≡ methods
+    → refusalOf r ≡ told (firstNo (questionsOf Of.Shop (Shop.atomCount shop) (shopRows shop) ++ shopEndQuestions shop))
 
--- After the rows of an order sheet: their refusal, or 17 and 18.
-unfoldable pub orderEnd : Scan → ℕ → Hgn.Verdict
-orderEnd s goals =
-    cond (eqb (s .number) 0)
-    (ask (mayEnd (positionOf (s .position) .context)) 17 0
-    (ask (eqb (s .position .nodes) goals) 18 0
-    passed))
-    (refused (s .number) (s .place))
+-- The same of an order sheet.
+abbrev pub OrderEnds : Scan → ℕ → Refusal → Type 0
+OrderEnds s goals r = (sheet : List ℕ) → Scanned Of.Order (Order.atomCount sheet) (orderRows sheet) s → Order.goalCount sheet ≡ goals
+    → refusalOf r ≡ told (firstNo (questionsOf Of.Order (Order.atomCount sheet) (orderRows sheet) ++ orderEndQuestions sheet))

@@ -1,5 +1,6 @@
 // The three checks: number and place of the first question that fails, or 0 and 0. Document 01, "Questions".
 use reading::position::Sheet;
+use reading::refusal::Refusal;
 use scan::rows::Layout;
 use scan::rows::Scan;
 use scan::rows::word;
@@ -7,13 +8,9 @@ ghost use mathlib.Core.Path.{_≡_};
 ghost use Rattle.hgn.specs.Shop.{checkShop};
 ghost use Rattle.hgn.specs.Order.{orderQuestions, checkOrder};
 ghost use Rattle.hgn.specs.Trace.{traceQuestions, checkTrace};
-ghost use Rattle.sheets.specs.Answers.{answerOf, shopSizes, orderSizes, shopEnd, orderEnd};
-
-// A check's answer.
-pub struct Verdict {
-    pub number: u16,
-    pub place: u16,
-}
+ghost use Rattle.hgn.specs.Questions.{firstNo, told};
+ghost use Rattle.reading.specs.Refusals.{refusalOf};
+ghost use Rattle.sheets.specs.Answers.{shopSizes, orderSizes, ShopEnds, OrderEnds};
 
 // What a shop sheet may hold.
 pub struct Shop;
@@ -82,10 +79,11 @@ fn order_sizes(shop_atoms: u16, atoms: u16, goals: u16, rows: u16) -> bool
 }
 
 // What is asked of a shop sheet after its rows.
-fn shop_end(scan: Scan, actions: u16, methods: u16) -> Verdict
-    ensures { λ r. ⌜ r ≡ answerOf (shopEnd scan actions methods) ⌝ }
+fn shop_end(scan: Scan, actions: u16, methods: u16) -> Refusal
+    ensures { λ r. ⌜ ShopEnds scan actions methods r ⌝ }
 {
-    if scan.number == 0 {
+    let refusal = scan.refusal;
+    if refusal.number == 0 {
         let position = scan.position;
         let context = position.context;
         if context.may_end() {
@@ -94,72 +92,45 @@ fn shop_end(scan: Scan, actions: u16, methods: u16) -> Verdict
                 if tally.methods == methods {
                     let last = tally.closed();
                     if last.found {
-                        return Verdict {
-                            number: 9,
-                            place: last.first,
-                        };
+                        let unplaced = Refusal::by(9);
+                        return unplaced.at(last.first);
                     }
-                    return Verdict {
-                        number: 0,
-                        place: 0,
-                    };
+                    return Refusal::none();
                 }
+                return Refusal::by(8);
             }
-            return Verdict {
-                number: 8,
-                place: 0,
-            };
+            return Refusal::by(8);
         }
-        return Verdict {
-            number: 7,
-            place: 0,
-        };
+        return Refusal::by(7);
     }
-    Verdict {
-        number: scan.number,
-        place: scan.place,
-    }
+    refusal
 }
 
 // What is asked of an order sheet after its rows.
-fn order_end(scan: Scan, goals: u16) -> Verdict
-    ensures { λ r. ⌜ r ≡ answerOf (orderEnd scan goals) ⌝ }
+fn order_end(scan: Scan, goals: u16) -> Refusal
+    ensures { λ r. ⌜ OrderEnds scan goals r ⌝ }
 {
-    if scan.number == 0 {
+    let refusal = scan.refusal;
+    if refusal.number == 0 {
         let position = scan.position;
         let context = position.context;
         if context.may_end() {
             if position.nodes == goals {
-                return Verdict {
-                    number: 0,
-                    place: 0,
-                };
+                return Refusal::none();
             }
-            return Verdict {
-                number: 18,
-                place: 0,
-            };
+            return Refusal::by(18);
         }
-        return Verdict {
-            number: 17,
-            place: 0,
-        };
+        return Refusal::by(17);
     }
-    Verdict {
-        number: scan.number,
-        place: scan.place,
-    }
+    refusal
 }
 
 // Questions 1 to 9.
-pub fn check_shop(shop: &[u16]) -> Verdict
-    ensures { λ r. ⌜ r ≡ answerOf (checkShop (now (shop .entry))) ⌝ }
+pub fn check_shop(shop: &[u16]) -> Refusal
+    ensures { λ r. ⌜ refusalOf r ≡ told (checkShop (now (shop .entry))) ⌝ }
 {
     if shop.len() < Shop::SIZES {
-        return Verdict {
-            number: 1,
-            place: 0,
-        };
+        return Refusal::by(1);
     }
     let atoms = shop[0];
     let actions = shop[1];
@@ -175,26 +146,17 @@ pub fn check_shop(shop: &[u16]) -> Verdict
             let scan = layout.scan(shop, Sheet::Shop, atoms);
             return shop_end(scan, actions, methods);
         }
-        return Verdict {
-            number: 3,
-            place: 0,
-        };
+        return Refusal::by(3);
     }
-    Verdict {
-        number: 2,
-        place: 0,
-    }
+    Refusal::by(2)
 }
 
 // Questions 11 to 18, of an order sheet; the shop sheet is asked before.
-fn ask_order(shop: &[u16], order: &[u16]) -> Verdict
-    ensures { λ r. ⌜ r ≡ answerOf (orderQuestions (now (shop .entry)) (now (order .entry))) ⌝ }
+fn ask_order(shop: &[u16], order: &[u16]) -> Refusal
+    ensures { λ r. ⌜ refusalOf r ≡ told (firstNo (orderQuestions (now (shop .entry)) (now (order .entry)))) ⌝ }
 {
     if order.len() < Order::SIZES {
-        return Verdict {
-            number: 11,
-            place: 0,
-        };
+        return Refusal::by(11);
     }
     let shop_atoms = word(shop, 0);
     let atoms = order[0];
@@ -210,50 +172,32 @@ fn ask_order(shop: &[u16], order: &[u16]) -> Verdict
             let scan = layout.scan(order, Sheet::Order, atoms);
             return order_end(scan, goals);
         }
-        return Verdict {
-            number: 13,
-            place: 0,
-        };
+        return Refusal::by(13);
     }
-    Verdict {
-        number: 12,
-        place: 0,
-    }
+    Refusal::by(12)
 }
 
 // Questions 21 to 23.
-fn ask_trace(trace: &[u16]) -> Verdict
-    ensures { λ r. ⌜ r ≡ answerOf (traceQuestions (now (trace .entry))) ⌝ }
+fn ask_trace(trace: &[u16]) -> Refusal
+    ensures { λ r. ⌜ refusalOf r ≡ told (firstNo (traceQuestions (now (trace .entry)))) ⌝ }
 {
     if trace.len() < Trace::SIZES {
-        return Verdict {
-            number: 21,
-            place: 0,
-        };
+        return Refusal::by(21);
     }
     let steps = trace[0];
     if Trace::MOST_STEPS < steps {
-        return Verdict {
-            number: 22,
-            place: 0,
-        };
+        return Refusal::by(22);
     }
     let count = steps as usize;
     if trace.len() == Trace::SIZES + 2 * count {
-        return Verdict {
-            number: 0,
-            place: 0,
-        };
+        return Refusal::none();
     }
-    Verdict {
-        number: 23,
-        place: 0,
-    }
+    Refusal::by(23)
 }
 
 // The shop sheet, then the order sheet.
-pub fn check_order(shop: &[u16], order: &[u16]) -> Verdict
-    ensures { λ r. ⌜ r ≡ answerOf (checkOrder (now (shop .entry)) (now (order .entry))) ⌝ }
+pub fn check_order(shop: &[u16], order: &[u16]) -> Refusal
+    ensures { λ r. ⌜ refusalOf r ≡ told (checkOrder (now (shop .entry)) (now (order .entry))) ⌝ }
 {
     let first = check_shop(shop);
     if first.number == 0 {
@@ -263,8 +207,8 @@ pub fn check_order(shop: &[u16], order: &[u16]) -> Verdict
 }
 
 // The shop sheet, the order sheet, then the trace.
-pub fn check_trace(shop: &[u16], order: &[u16], trace: &[u16]) -> Verdict
-    ensures { λ r. ⌜ r ≡ answerOf (checkTrace (now (shop .entry)) (now (order .entry)) (now (trace .entry))) ⌝ }
+pub fn check_trace(shop: &[u16], order: &[u16], trace: &[u16]) -> Refusal
+    ensures { λ r. ⌜ refusalOf r ≡ told (checkTrace (now (shop .entry)) (now (order .entry)) (now (trace .entry))) ⌝ }
 {
     let first = check_order(shop, order);
     if first.number == 0 {

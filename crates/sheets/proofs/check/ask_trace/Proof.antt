@@ -1,7 +1,7 @@
 -- The questions are the definition's, in its order. Assumes nothing.
-use mathlib.Core.Path.{sym, ap}
+use mathlib.Core.Path.{sym, ap, _∙_}
 use borrow.Author.Needs.{needs}
-use Rattle.sheets.specs.Answers.{answerOf}
+use Rattle.hgn.specs.Questions.{told}
 use Rattle.sheets.proofs.Checks.{trace-short, trace-steps-no, trace-length-no, trace-passed}
 use Rattle.sheets.proofs.check.ask_trace.Statement.{statement}
 use Rattle.sheets.proofs.check.ask_trace.Tie as tie
@@ -10,11 +10,15 @@ pub ask-trace-spec : {M : Type 1} → statement M
 ask-trace-spec =
     tie.close
     (tie.spec
-    (λ c. ap answerOf (sym (trace-short _ (c .if1 .taken))))
+    (λ c κs. search needs)
+    (λ c. c .by .ensures ∙ ap told (sym (trace-short _ (c .before .if1 .taken))))
     (λ c. search needs)
-    (λ c. ap answerOf (sym (trace-steps-no _ (c .before .before .if1 .left) (c .if2 .taken))))
+    (λ c κs. search needs)
+    (λ c. c .by2 .ensures ∙ ap told (sym (trace-steps-no _ (c .before .before .before .if1 .left) (c .before .if2 .taken))))
     (λ c. search needs)
     (λ c. search needs)
     (λ c. search needs)
-    (λ c. ap answerOf (sym (trace-passed _ (c .before .before .before .if1 .left) (c .before .if2 .left) (c .if3 .taken))))
-    (λ c. ap answerOf (sym (trace-length-no _ (c .before .before .before .if1 .left) (c .before .if2 .left) (c .if3 .left)))))
+    (λ c κs. search needs)
+    (λ c. c .none .ensures ∙ ap told (sym (trace-passed _ (c .before .before .before .before .if1 .left) (c .before .before .if2 .left) (c .before .if3 .taken))))
+    (λ c κs. search needs)
+    (λ c. c .by3 .ensures ∙ ap told (sym (trace-length-no _ (c .before .before .before .before .if1 .left) (c .before .before .if2 .left) (c .before .if3 .left)))))

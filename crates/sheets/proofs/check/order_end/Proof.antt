@@ -1,9 +1,10 @@
 -- The questions are the definition's, in its order. Assumes nothing.
-use mathlib.Core.Path.{sym, ap}
+use mathlib.Core.Path.{sym, ap, _∙_}
 use borrow.Author.Needs.{needs}
-use Rattle.sheets.specs.Answers.{answerOf}
-use Rattle.reading.proofs.Laws.{told}
-use Rattle.sheets.proofs.Checks.{order-end-refused, order-end-17, order-end-18, order-end-passed}
+use Rattle.hgn.specs.Questions.{told}
+use Rattle.hgn.proofs.Firsts.{told-stop}
+use Rattle.reading.proofs.Laws as Laws
+use Rattle.sheets.proofs.Checks.{order-end-17, order-end-18, order-end-passed}
 use Rattle.sheets.proofs.check.order_end.Statement.{statement}
 use Rattle.sheets.proofs.check.order_end.Tie as tie
 
@@ -12,7 +13,13 @@ order-end-spec =
     tie.close
     (tie.spec
     (λ c κs. search needs)
-    (λ c. ap answerOf (sym (order-end-passed _ _ (c .before .before .before .before .before .if1 .taken) (told (c .before .before .before .may-end .ensures) (c .before .before .if2 .taken)) (c .if3 .taken))))
-    (λ c. ap answerOf (sym (order-end-18 _ _ (c .before .before .before .before .before .if1 .taken) (told (c .before .before .before .may-end .ensures) (c .before .before .if2 .taken)) (c .if3 .left))))
-    (λ c. ap answerOf (sym (order-end-17 _ _ (c .before .before .before .if1 .taken) (told (c .before .may-end .ensures) (c .if2 .left)))))
-    (λ c. ap answerOf (sym (order-end-refused _ _ (c .if1 .left)))))
+    (λ c κs. search needs)
+    (λ c sheet sc g. c .none .ensures ∙ ap told (sym (order-end-passed sheet _ sc (c .before .before .before .before .before .before .if1 .taken)
+    (Laws.told (c .before .before .before .before .may-end .ensures) (c .before .before .before .if2 .taken)) (c .before .if3 .taken ∙ sym g))))
+    (λ c κs. search needs)
+    (λ c sheet sc g. c .by .ensures ∙ ap told (sym (order-end-18 sheet _ sc (c .before .before .before .before .before .before .if1 .taken)
+    (Laws.told (c .before .before .before .before .may-end .ensures) (c .before .before .before .if2 .taken)) (λ z. c .before .if3 .left (z ∙ g)))))
+    (λ c κs. search needs)
+    (λ c sheet sc g. c .by2 .ensures ∙ ap told (sym (order-end-17 sheet _ sc (c .before .before .before .before .if1 .taken)
+    (Laws.told (c .before .before .may-end .ensures) (c .before .if2 .left)))))
+    (λ c sheet sc g. told-stop _ _ _ (sc .refusal) (c .if1 .left)))

@@ -4,9 +4,10 @@ use native.Mathlib.Omega.{arith}
 use mathlib.Core.Path.{sym, ap, ap₂, _∙_}
 use borrow.Author.Needs.{needs}
 use Rattle.hgn.specs.Rows.{row, rowsOf}
-use Rattle.hgn.specs.Verdict.{numberOf, placeOf}
-use Rattle.reading.specs.Reading.{contextOf, readingOf}
-use Rattle.reading.proofs.Laws.{told, same-next}
+use Rattle.hgn.specs.Questions.{Refusal, told}
+use Rattle.reading.specs.Reading.{contextOf, positionOf, readingOf}
+use Rattle.reading.proofs.Laws.{same-next}
+use Rattle.reading.proofs.Laws as Laws
 use Rattle.reading.proofs.Groups.{going-on-passes}
 use Rattle.scan.proofs.GoneOn.{going-on-counts}
 use Rattle.scan.proofs.Lookup.{rows-length, rows-at}
@@ -64,8 +65,8 @@ loop-again c =
           _ _ (rows-at (a .self .sizes) (a .self .rows) (a .words .now) f (b .before .loop .i) (b .loop-test .taken)
           ∙ ap₂ row (sym (c .before .before .before .before .before .tag .ensures)) (sym (c .before .before .before .before .value .ensures)))
           _ _ (same-next (c .above .ensures)
-          ∙ going-on-passes (a .atoms) (p .least) (p .nodes) _ (a .sheet) (contextOf (p .context)) _ (told (c .before .before .before .goes-on .ensures) (c .before .before .if1 .taken)))
-          (c .before .gone-on .ensures ∙ going-on-counts (a .atoms) (p .least) (p .nodes) _ _ (contextOf (p .context)) _ (told (c .before .before .before .goes-on .ensures) (c .before .before .if1 .taken))),
+          ∙ going-on-passes (a .atoms) (p .least) (p .nodes) _ (a .sheet) (contextOf (p .context)) _ (Laws.told (c .before .before .before .goes-on .ensures) (c .before .before .if1 .taken)))
+          (c .before .gone-on .ensures ∙ going-on-counts (a .atoms) (p .least) (p .nodes) _ _ (contextOf (p .context)) _ (Laws.told (c .before .before .before .goes-on .ensures) (c .before .before .if1 .taken))),
     )
 
 counted-requires : tie.Need-counted-requires Inv-loop μ-loop
@@ -99,30 +100,42 @@ enum-known-reading-2 c = search needs
 cast-place : tie.Need-cast-place Inv-loop μ-loop
 cast-place c = omega arith
 
+refused-requires : tie.Need-refused-requires Inv-loop μ-loop
+refused-requires c κs = search needs
+
+passed-requires : tie.Need-passed-requires Inv-loop μ-loop
+passed-requires c κs = search needs
+
 returns : tie.Need-returns Inv-loop μ-loop
 returns c =
-    let b = c .before .before .before .before .before .before .before .before .before in
+    let k = c .before in
+    let b = k .before .before .before .before .before .before .before .before .before in
     let a = b .before .before .before .before .before .args in
     let f = b .before .before .before .before .before .pre .0 in
     let r = going-refused (a .sheet) (a .atoms) (rowsOf (a .self .sizes) (a .self .rows) (a .words .now)) (b .before .loop .i) (b .before .loop .position) (b .before .loop .tally)
     (b .before .loop .inv .1) (rw (rows-length (a .self .sizes) (a .self .rows) (a .words .now) f) (b .loop-test .taken))
     _ _ (rows-at (a .self .sizes) (a .self .rows) (a .words .now) f (b .before .loop .i) (b .loop-test .taken)
-    ∙ ap₂ row (sym (c .before .before .before .before .before .before .before .before .tag .ensures)) (sym (c .before .before .before .before .before .before .before .value .ensures)))
-    (c .before .reading2 .given .0 .0) (ap readingOf (sym (c .before .reading2 .given .1)) ∙ c .before .before .before .read .ensures) in
+    ∙ ap₂ row (sym (k .before .before .before .before .before .before .before .before .tag .ensures)) (sym (k .before .before .before .before .before .before .before .value .ensures)))
+    (k .before .reading2 .given .0 .0) (ap readingOf (sym (k .before .reading2 .given .1)) ∙ k .before .before .before .read .ensures) in
+    let number = ap (λ (q : Refusal). q .number) (c .refused .ensures) in
     record {
-      number = ap numberOf (sym (r .0));
-      place = ap placeOf (sym (r .0));
+      refusal = c .refused .ensures ∙ sym (ap told (r .0));
       position = λ e. absurd (omega (arith, r .1));
       tally = λ e. absurd (omega (arith, r .1));
     }
 
 returns-2 : tie.Need-returns-2 Inv-loop μ-loop
 returns-2 c =
-    let a = c .before .before .before .before .before .args in
-    let f = c .before .before .before .before .before .pre .0 in
-    let r = going-end (a .sheet) (a .atoms) (rowsOf (a .self .sizes) (a .self .rows) (a .words .now)) _ _ _ (c .before .loop .inv .1)
-    (rw (rows-length (a .self .sizes) (a .self .rows) (a .words .now) f) (c .loop-test .left)) in
-    record { number = ap numberOf (sym (r .0)); place = ap placeOf (sym (r .0)); position = λ e. r .1; tally = λ e. r .2 }
+    let k = c .before in
+    let a = k .before .before .before .before .before .args in
+    let f = k .before .before .before .before .before .pre .0 in
+    let r = going-end (a .sheet) (a .atoms) (rowsOf (a .self .sizes) (a .self .rows) (a .words .now)) _ _ _ (k .before .loop .inv .1)
+    (rw (rows-length (a .self .sizes) (a .self .rows) (a .words .now) f) (k .loop-test .left)) in
+    record {
+      refusal = c .passed .ensures .0 ∙ sym (ap told (r .0));
+      position = λ e. ap positionOf (c .passed .ensures .1) ∙ r .1;
+      tally = λ e. c .passed .ensures .2 ∙ r .2;
+    }
 
 pub scan-spec : {M : Type 1} → statement M
 scan-spec =
@@ -148,5 +161,7 @@ scan-spec =
     loop-again-2
     enum-known-reading-2
     cast-place
+    refused-requires
     returns
+    passed-requires
     returns-2)
