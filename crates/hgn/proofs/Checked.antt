@@ -15,113 +15,43 @@ use Rattle.hgn.specs.Lists.{all, keep, upTo, parts, among, below}
 use Rattle.hgn.specs.Tag.{Context, atStart, inAction, inEffects, inMethod, inNode, inAlternative, Position, opening, shopFollow, orderFollow, contextAfter, begins, leastHere, advance, inRange, rises}
 use Rattle.hgn.specs.Rows.{Row, row, has, valuesOf}
 use Rattle.hgn.specs.Meaning.{Literal, Formula, Node, Action, Method, literals, nodeOf, nodesOf, firstValue, actionOf, methodOf, opens, headed, domainOf, orderOf, lastOf, goalOf, lastAfterAll, networkOf}
-use Rattle.hgn.specs.Verdict.{Verdict, passed, refused, ask, andThen, rowQuestions}
+use Rattle.hgn.specs.Verdict.{passed}
 use Rattle.hgn.specs.Shop
-use Rattle.hgn.specs.Shop.{domain, checkShop, nodeRules, methodQuestions}
+use Rattle.hgn.specs.Shop.{domain, checkShop, nodeRules}
 use Rattle.hgn.specs.Order
 use Rattle.hgn.specs.Order.{order, checkOrder}
-use Rattle.hgn.specs.Trace.{checkTrace}
 use Rattle.hgn.specs.Demands.{MethodsEndInGoals}
 use Rattle.hgn.proofs.Tests.{below-lt}
+use Rattle.hgn.proofs.Passed.{Checked, end, next, shop-passed, order-passed}
+pub use Rattle.hgn.proofs.Passed.{ask-passed, andThen-passed, shop-of-order, order-of-trace}
 
--- A question that passed, and the rest after it.
-pub ask-passed : (b : Bool) (number place : ℕ) (rest : Verdict) → ask b number place rest ≡ passed → (b ≡ true) × (rest ≡ passed)
-unfolding ask
-ask-passed true number place rest e = (refl, e)
-ask-passed false number place rest e = (cc, cc)
-
-pub andThen-passed : (first rest : Verdict) → andThen first rest ≡ passed → (first ≡ passed) × (rest ≡ passed)
-unfolding andThen
-andThen-passed passed rest e = (refl, e)
-andThen-passed (refused number place) rest e = (cc, cc)
-
--- A check of more sheets has passed those of fewer.
-pub order-of-trace : (shop sheet trace : List ℕ) → checkTrace shop sheet trace ≡ passed → checkOrder shop sheet ≡ passed
-unfolding checkTrace
-order-of-trace shop sheet trace e = andThen-passed _ _ e .0
-
-pub shop-of-order : (shop sheet : List ℕ) → checkOrder shop sheet ≡ passed → checkShop shop ≡ passed
-unfolding checkOrder
-shop-of-order shop sheet e = andThen-passed _ _ e .0
-
--- Every row passes its three questions; the first stands at this position.
-pub data Checked (follow : Context → List ℕ) (F : ℕ) : Position → List Row → Type 0 where
-  end : {p : Position} → Checked follow F p []
-  next : {p : Position} {r : Row} {rs : List Row}
-      → among (r .tag) (follow (p .context)) ≡ true → inRange F p (r .tag) (r .value) ≡ true → rises p (r .tag) (r .value) ≡ true
-      → Checked follow F (advance p (r .tag) (r .value)) rs → Checked follow F p (r ∷ rs)
-
-pub rows-checked : (follow : Context → List ℕ) (q F i : ℕ) (p : Position) (rs : List Row)
-    → rowQuestions follow q F i p rs ≡ passed → Checked follow F p rs
-unfolding rowQuestions
-rows-checked follow q F i p [] e = end
-rows-checked follow q F i p (r ∷ rs) e =
-    let a = ask-passed _ _ _ _ e in
-    let b = ask-passed _ _ _ _ (a .1) in
-    let c = ask-passed _ _ _ _ (b .1) in
-    next (a .0) (b .0) (c .0) (rows-checked follow q F (suc i) _ rs (c .1))
-
--- What a shop sheet that passes has passed.
-pub record ShopPassed (shop : List ℕ) : Type 0 where
-  atoms : Shop.atomCount shop ≤ 256
-  pub rows : Checked shopFollow (Shop.atomCount shop) opening (Shop.shopRows shop)
-  actions : length (domain shop .actions) ≤ 255
-  methods : length (domain shop .methods) ≤ 255
-  pub rules : methodQuestions 0 (domain shop .methods) ≡ passed
-
-pub shop-passed : (shop : List ℕ) → checkShop shop ≡ passed → ShopPassed shop
-unfolding checkShop Shop.sizesInRange
-shop-passed shop e =
-    let a = ask-passed _ _ _ _ (ask-passed _ _ _ _ e .1) in
-    let b = andThen-passed _ _ (ask-passed _ _ _ _ (a .1) .1) in
-    let c = ask-passed _ _ _ _ (ask-passed _ _ _ _ (b .1) .1) in
-    let sizes = simp and-eq-true-iff at (a .0) in
-    let counts = simp and-eq-true-iff at (c .0) in
-    record {
-      atoms = omega (arith, leb-true);
-      rows = rows-checked _ _ _ _ _ _ (b .0);
-      actions = omega (arith, leb-true, eqb-true);
-      methods = omega (arith, leb-true, eqb-true);
-      rules = c .1;
-    }
-
--- A shop sheet has at most 255 actions and at most 255 methods, an order sheet at most 64 goals.
+-- A shop sheet has at most 255 actions and 255 methods, an order sheet at most 64 goals.
 pub shop-actions : (shop : List ℕ) → checkShop shop ≡ passed → length (domain shop .actions) ≤ 255
-shop-actions shop e = shop-passed shop e .actions
+unfolding Shop.sizesInRange
+shop-actions shop e =
+    let sizes = simp and-eq-true-iff at (shop-passed shop e .sizes) in
+    omega (arith, leb-true, shop-passed shop e .action-count)
 
 pub shop-methods : (shop : List ℕ) → checkShop shop ≡ passed → length (domain shop .methods) ≤ 255
-shop-methods shop e = shop-passed shop e .methods
+unfolding Shop.sizesInRange
+shop-methods shop e =
+    let sizes = simp and-eq-true-iff at (shop-passed shop e .sizes) in
+    omega (arith, leb-true, shop-passed shop e .method-count)
 
 -- As many actions and methods as the sheet says.
 pub shop-counts : (shop : List ℕ) → checkShop shop ≡ passed
     → (length (domain shop .actions) ≡ Shop.actionCount shop) × (length (domain shop .methods) ≡ Shop.methodCount shop)
-unfolding checkShop
-shop-counts shop e =
-    let b = andThen-passed _ _ (ask-passed _ _ _ _ (ask-passed _ _ _ _ (ask-passed _ _ _ _ e .1) .1) .1) in
-    let c = simp and-eq-true-iff at (ask-passed _ _ _ _ (ask-passed _ _ _ _ (b .1) .1) .0) in
-    (eqb-true _ _ (c .0), eqb-true _ _ (c .1))
-
--- What an order sheet that passes has passed.
-record OrderPassed (sheet : List ℕ) : Type 0 where
-  rows : Checked orderFollow (Order.atomCount sheet) opening (Order.orderRows sheet)
-  goals : length (order sheet .goals) ≤ 64
-  counted : length (order sheet .goals) ≡ Order.goalCount sheet
-
-order-passed : (shop sheet : List ℕ) → checkOrder shop sheet ≡ passed → OrderPassed sheet
-unfolding checkOrder Order.orderQuestions Order.sizesInRange
-order-passed shop sheet e =
-    let a = ask-passed _ _ _ _ (ask-passed _ _ _ _ (andThen-passed _ _ e .1) .1) in
-    let b = andThen-passed _ _ (ask-passed _ _ _ _ (a .1) .1) in
-    let c = ask-passed _ _ _ _ (ask-passed _ _ _ _ (b .1) .1) in
-    let sizes = simp and-eq-true-iff at (a .0) in
-    record { rows = rows-checked _ _ _ _ _ _ (b .0); goals = omega (arith, leb-true, eqb-true); counted = eqb-true _ _ (c .0) }
+shop-counts shop e = (shop-passed shop e .action-count, shop-passed shop e .method-count)
 
 pub order-goals : (shop sheet : List ℕ) → checkOrder shop sheet ≡ passed → length (order sheet .goals) ≤ 64
-order-goals shop sheet e = order-passed shop sheet e .goals
+unfolding Order.sizesInRange
+order-goals shop sheet e =
+    let sizes = simp and-eq-true-iff at (order-passed shop sheet e .sizes) in
+    omega (arith, leb-true, order-passed shop sheet e .goal-count)
 
 -- As many goals as the sheet says.
 pub order-count : (shop sheet : List ℕ) → checkOrder shop sheet ≡ passed → length (order sheet .goals) ≡ Order.goalCount sheet
-order-count shop sheet e = order-passed shop sheet e .counted
+order-count shop sheet e = order-passed shop sheet e .goal-count
 
 -- Node `i` of a network comes only after lower nodes; these are its nodes from node `i` on.
 abbrev pub Numbered : ℕ → List Node → Type 0
@@ -260,13 +190,6 @@ module _ {A : Type 0} (t : ℕ) {F : ℕ} (f : List Row → A) (P : A → Type 0
       let k = kept (headed t) (parts opens rs) m in
       subst P q (block c (k .0) (k .1))
 
--- Every method is within its node rules.
-pub nodes-rules : (i : ℕ) (m : Method) (ms : List Method) → methodQuestions i ms ≡ passed → List·Memᴰ m ms → nodeRules m ≡ true
-unfolding methodQuestions
-nodes-rules i m [] e k = absurd (List·Memᴰ·not-nil k)
-nodes-rules i m (n ∷ ns) e (List·Memᴰ·head q) = rw q (ask-passed _ _ _ _ e .0)
-nodes-rules i m (n ∷ ns) e (List·Memᴰ·tail k) = nodes-rules (suc i) m ns (ask-passed _ _ _ _ e .1) k
-
 pub length-lastAfterAll : (i : ℕ) (ns : List Node) → length (lastAfterAll i ns) ≡ length ns
 unfolding lastAfterAll
 length-lastAfterAll i [] = refl
@@ -278,7 +201,7 @@ pub method-nodes : (shop : List ℕ) → checkShop shop ≡ passed → (m : Meth
     → (1 ≤ length (networkOf m)) × (length (networkOf m) ≤ 63)
 unfolding networkOf nodeRules
 method-nodes shop e m k =
-    let rules = simp and-eq-true-iff at (nodes-rules 0 m _ (shop-passed shop e .rules) k) in
+    let rules = simp and-eq-true-iff at (shop-passed shop e .rules m k) in
     let same = length-lastAfterAll 0 (m .nodes) in
     omega (arith, leb-true)
 
@@ -329,7 +252,7 @@ others-listed i (n ∷ m ∷ init) last =
 pub methods-end-in-goals : MethodsEndInGoals
 unfolding networkOf nodeRules goalOf
 methods-end-in-goals shop e m k =
-    let rules = simp and-eq-true-iff at (nodes-rules 0 m _ (shop-passed shop e .rules) k) in
+    let rules = simp and-eq-true-iff at (shop-passed shop e .rules m k) in
     let r = last-after-all 0 (m .nodes) (omega (arith, leb-true)) in
     record {
       goal = r .0 ∙ one-alternative _ (omega (arith, eqb-true));
@@ -390,31 +313,3 @@ effects-rise shop e a k =
 -- Every literal's atom is below `n`.
 abbrev pub AtomsBelow : ℕ → List Literal → Type 0
 AtomsBelow n ls = (l : Literal) → List·Memᴰ l ls → l .atom < n
-
-literals-below : (t f : ℕ) {F : ℕ} {p : Position} {rs : List Row} → F ≤ 256
-    → ((p : Position) (v : ℕ) → inRange F p t v ≡ ltb v F) → ((p : Position) (v : ℕ) → inRange F p f v ≡ ltb v F)
-    → Checked shopFollow F p rs → AtomsBelow 256 (literals t f (upTo opens rs))
-unfolding literals upTo
-literals-below t f most at-t at-f end = λ l m. absurd (List·Memᴰ·not-nil m)
-literals-below t f {F} most at-t at-f (next {p} {r} {rs} allowed range rise c) =
-    literal-cases t f (AtomsBelow 256) r rs (λ l m. absurd (List·Memᴰ·not-nil m))
-    (λ e. first (sym (at-t p (r .value)) ∙ (rw e at range)) (literals-below t f most at-t at-f c))
-    (λ e. first (sym (at-f p (r .value)) ∙ (rw e at range)) (literals-below t f most at-t at-f c))
-    (λ _ _ _ _. literals-below t f most at-t at-f c)
-  where
-    first : {s : Bool} {ls : List Literal} → ltb (r .value) F ≡ true → AtomsBelow 256 ls
-        → AtomsBelow 256 (record { sign = s; atom = r .value } ∷ ls)
-    first h ih l m = ⊎-elim (λ q. let e = ap (λ l. l .atom) q in omega (arith, ltb-true)) (ih l) (List·Memᴰ·cases-cons m)
-
--- An action's effects and needs speak of atoms below 256.
-pub atoms-below : (shop : List ℕ) → checkShop shop ≡ passed → (a : Action) → List·Memᴰ a (domain shop .actions)
-    → AtomsBelow 256 (a .effects) × AtomsBelow 256 (a .needs)
-unfolding domain domainOf actionOf literals inRange begins among
-atoms-below shop e a k =
-    let c = shop-passed shop e in
-    blocks 1 actionOf (λ a. AtomsBelow 256 (a .effects) × AtomsBelow 256 (a .needs))
-    (λ p v rs g d. (
-      literals-below 5 6 (c .atoms) (λ p v. refl) (λ p v. refl) d,
-      literals-below 3 4 (c .atoms) (λ p v. refl) (λ p v. refl) d,
-    ))
-    (c .rows) k

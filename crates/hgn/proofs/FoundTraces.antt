@@ -7,11 +7,12 @@ use mathlib.Core.Option.{some}
 use lib.ListN.{length, drop, length-append, length-drop, length-map}
 use lib.Seq.{take-append-seam, drop-append-seam}
 use Rattle.hgn.specs.Run.{Step}
-use Rattle.hgn.specs.Verdict.{passed, andThen}
+use Rattle.hgn.specs.Verdict.{passed}
 use Rattle.hgn.specs.Order.{checkOrder}
-use Rattle.hgn.specs.Trace.{sizeWords, mostSteps, step, stepsOf, traceQuestions, checkTrace}
+use Rattle.hgn.specs.Trace.{sizeWords, mostSteps, step, stepsOf, checkTrace}
 use Rattle.hgn.specs.Search.{traceWords, written}
 use Rattle.hgn.specs.Demands.{Finds}
+use Rattle.hgn.proofs.Passed.{passed-trace}
 use Rattle.hgn.proofs.Traces as Traces
 use Rattle.hgn.proofs.Traces.{written-passes, written-steps}
 
@@ -43,11 +44,9 @@ module _ (xs : List Step) where
 
   pub words-pass : (shop sheet : List ℕ) → checkOrder shop sheet ≡ passed → length xs ≤ mostSteps
       → checkTrace shop sheet (traceWords xs) ≡ passed
-  unfolding checkTrace andThen
   words-pass shop sheet e h =
-      rw e
-      (ap traceQuestions words
-      ∙ written-passes (movesIn xs) (placesIn xs) both (omega (arith, length-map xs (λ x. x .move))))
+      passed-trace shop sheet (traceWords xs) e
+      (rw words (written-passes (movesIn xs) (placesIn xs) both (omega (arith, length-map xs (λ x. x .move)))))
 
   -- The answer of a search that found these steps.
   pub finds : (shop sheet room : List ℕ) → checkOrder shop sheet ≡ passed → length xs ≤ mostSteps

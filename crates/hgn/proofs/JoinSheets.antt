@@ -19,8 +19,9 @@ use Rattle.hgn.specs.Verdict.{passed, positionAfter}
 use Rattle.hgn.specs.Order as Sheet
 use Rattle.hgn.specs.Order.{order, checkOrder}
 use Rattle.hgn.proofs.Tests.{among-true}
-use Rattle.hgn.proofs.Checked.{Checked, end, next, among-all, shop-of-order}
-use Rattle.hgn.proofs.Sheets.{sheetOf, sheet-rows, sheet-passes, checked-rows, start, Passes, sound}
+use Rattle.hgn.proofs.Passed.{Checked, end, next, shop-of-order}
+use Rattle.hgn.proofs.Checked.{among-all}
+use Rattle.hgn.proofs.Sheets.{sheetOf, sheet-rows, sheet-passes, start, Passes, sound}
 use Rattle.hgn.proofs.Sheets.{goalRows, first-node, behind-start, goals-no-start, goal-rows-short, rows-short, parts-goals}
 
 -- Rows of the second order behind `g` goals: each 7 row with `g` new 11 rows, the others' values raised by `g`.
@@ -546,7 +547,7 @@ module _ (shop first second : List ℕ) (one : checkOrder shop first ≡ passed)
     passes =
         sheet-passes atoms rows shop (shop-of-order shop first one) (sound shop first one .atoms)
         (omega (arith, goals-length)) (omega (arith, rows-length))
-        (checked-rows orderFollow 14 atoms 0 (checked-append (raiseRows g seconds) (sound shop first one .passes .rows) (seam-of .rows)))
+        (checked-append (raiseRows g seconds) (sound shop first one .passes .rows) (seam-of .rows))
         rows-end;
     means = ap orderOf (sheet-rows atoms rows) ∙ ap₂ (λ (s : List ℕ) (n : List Node). record { start = s; goals = n }) rows-start rows-goals;
   }

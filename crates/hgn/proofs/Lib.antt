@@ -1,5 +1,6 @@
 -- What the definitions of `specs/` imply, from the tests up to the demands. `Demands` gathers it.
 pub mod Tests
+pub mod Passed
 pub mod Checked
 pub mod Methods
 pub mod Joins

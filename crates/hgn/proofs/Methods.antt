@@ -16,7 +16,8 @@ use Rattle.hgn.specs.Meaning.{Literal, Method, literals, nodeOf, nodesOf
 use Rattle.hgn.specs.Verdict.{passed}
 use Rattle.hgn.specs.Shop.{shopRows, domain, checkShop, nodeRules}
 use Rattle.hgn.proofs.Tests.{or-true}
-use Rattle.hgn.proofs.Checked.{Checked, end, next, shop-passed, up-to, among-all, block, nodes-rules, one-alternative, literal-cases}
+use Rattle.hgn.proofs.Passed.{Checked, end, next, shop-passed}
+use Rattle.hgn.proofs.Checked.{up-to, among-all, block, one-alternative, literal-cases}
 
 -- In a method's nodes: after 7 or 11, or after 8, 9 or 10.
 abbrev inNodes : Context → Bool
@@ -143,7 +144,7 @@ pub goal-of-last : (shop : List ℕ) → checkShop shop ≡ passed → (b : List
     → (init : List (List Row)) (q : List Row) → parts (has Tag.node) b ≡ init ++ (q ∷ []) → goalOf m ≡ literals Tag.wantedTrue Tag.wantedFalse q
 unfolding goalOf nodeRules flatten methodOf nodesOf
 goal-of-last shop e b k h m d from init q last =
-    let rules = simp and-eq-true-iff at (nodes-rules 0 m _ (shop-passed shop e .rules) d) in
+    let rules = simp and-eq-true-iff at (shop-passed shop e .rules m d) in
     let one = one-alternative (lastOf (m .nodes) .formula) (omega (arith, eqb-true)) in
     let node : lastOf (m .nodes) ≡ nodeOf q = rw (from, last) (last-node init q) in
     let wanted = wanted-in-alternatives shop e b k h q (rw last (Memᴰ·append-right init (List·Memᴰ·head refl))) in

@@ -14,12 +14,13 @@ use Rattle.hgn.specs.Tag.{mayEnd, contextAfter, begins, leastHere, advan
 use Rattle.hgn.specs.Rows.{Row, row, has, valuesOf, rowsOf, mostRows}
 use Rattle.hgn.specs.Meaning.{nodeOf, nodesOf, orderOf}
 use Rattle.hgn.specs.Network.{mostWaiting}
-use Rattle.hgn.specs.Verdict.{passed, ask, andThen, rowQuestions, positionAfter}
+use Rattle.hgn.specs.Verdict.{passed, positionAfter}
 use Rattle.hgn.specs.Shop as Shop
 use Rattle.hgn.specs.Order as Order
 use Rattle.hgn.specs.Order.{order, checkOrder}
 use Rattle.hgn.proofs.Tests.{and-true}
-use Rattle.hgn.proofs.Checked.{Checked, end, next, rows-checked, ask-passed, andThen-passed, among-all, shop-of-order, order-goals}
+use Rattle.hgn.proofs.Passed.{Checked, end, next, passed-order, order-passed, shop-of-order}
+use Rattle.hgn.proofs.Checked.{among-all, order-goals}
 use Rattle.hgn.proofs.Traces.{zip-take}
 
 -- The words of an order sheet with these rows.
@@ -62,28 +63,24 @@ module _ (F : ℕ) (rows : List Row) where
 
   -- It passes if its rows do.
   pub sheet-passes : (shop : List ℕ) → Shop.checkShop shop ≡ passed → F ≡ Shop.atomCount shop → length (nodesOf rows) ≤ mostWaiting
-      → length rows ≤ mostRows → rowQuestions orderFollow 14 F 0 opening rows ≡ passed
+      → length rows ≤ mostRows → Checked orderFollow F opening rows
       → mayEnd (positionAfter opening rows .context) ≡ true → checkOrder shop (sheetOf F rows) ≡ passed
-  unfolding checkOrder Order.orderQuestions Order.sizesInRange Order.order orderOf andThen ask
+  unfolding Order.sizesInRange Order.order orderOf
   sheet-passes shop h same goals few asked ends =
-      rw (
-        h,
-        le-leb 3 (length (sheetOf F rows)) (omega arith),
-        eq-eqb F (Shop.atomCount shop) same,
-        le-leb (length (nodesOf rows)) mostWaiting goals,
-        le-leb (length rows) mostRows few,
-        eq-eqb (length (sheetOf F rows)) (3 + 2 * length rows) sheet-length,
-        sheet-rows,
-        asked,
-        ends,
-        eq-eqb (length (nodesOf rows)) (length (nodesOf rows)) refl,
-      )
-
-pub checked-rows : (follow : Context → List ℕ) (q F i : ℕ) {p : Position} {rs : List Row}
-    → Checked follow F p rs → rowQuestions follow q F i p rs ≡ passed
-unfolding rowQuestions ask
-checked-rows follow q F i end = refl
-checked-rows follow q F i (next allowed range rise c) = rw (allowed, range, rise) (checked-rows follow q F (suc i) c)
+      passed-order shop (sheetOf F rows) h
+      record {
+        long = omega arith;
+        sizes =
+            rw (
+              eq-eqb F (Shop.atomCount shop) same,
+              le-leb (length (nodesOf rows)) mostWaiting goals,
+              le-leb (length rows) mostRows few,
+            );
+        size = sheet-length;
+        rows = rw sheet-rows asked;
+        ends = rw sheet-rows ends;
+        goal-count = rw sheet-rows;
+      }
 
 -- An order's rows behind its 12 rows.
 unfoldable pub goalRows : List Row → List Row
@@ -270,16 +267,14 @@ pub record Sound (shop sheet : List ℕ) : Type 0 where
   pub passes : Passes (Order.atomCount sheet) opening (Order.orderRows sheet)
 
 pub sound : (shop sheet : List ℕ) → checkOrder shop sheet ≡ passed → Sound shop sheet
-unfolding checkOrder Order.orderQuestions Order.sizesInRange
+unfolding Order.sizesInRange
 sound shop sheet e =
-    let a = ask-passed _ _ _ _ (ask-passed _ _ _ _ (andThen-passed _ _ e .1) .1) in
-    let b = andThen-passed _ _ (ask-passed _ _ _ _ (a .1) .1) in
-    let c = ask-passed _ _ _ _ (b .1) in
-    let sizes = simp and-eq-true-iff at (a .0) in
+    let p = order-passed shop sheet e in
+    let sizes = simp and-eq-true-iff at (p .sizes) in
     record {
       atoms = eqb-true _ _ (sizes .0 .0);
       goals = order-goals shop sheet e;
-      passes = record { rows = rows-checked _ _ _ _ _ _ (b .0); ends = c .0 };
+      passes = record { rows = p .rows; ends = p .ends };
     }
 
 pub rows-short : (sheet : List ℕ) → length (Order.orderRows sheet) ≤ Order.rowCount sheet
@@ -310,7 +305,7 @@ later shop sheet atoms e h few =
       passes =
           sheet-passes F rows shop (shop-of-order shop sheet e) (s .atoms) (rw (later-goals atoms rs) (s .goals))
           (omega (arith, length-append (map (row 12) atoms) (goalRows rs), length-map atoms (row 12), goal-rows-short rs, rows-short sheet))
-          (checked-rows orderFollow 14 F 0 (p .rows)) (p .ends);
+          (p .rows) (p .ends);
       goals = ap nodesOf (sheet-rows F rows) ∙ later-goals atoms rs;
       start = ap (valuesOf 12) (sheet-rows F rows) ∙ later-start atoms (goalRows rs) (goals-no-start 0 rs (s .passes));
     }

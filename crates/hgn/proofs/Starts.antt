@@ -24,7 +24,8 @@ use Rattle.hgn.specs.Order as Sheet
 use Rattle.hgn.specs.Order.{order, checkOrder}
 use Rattle.hgn.specs.Definition1.{Derivation, base, satisfaction, application, decomposition}
 use Rattle.hgn.proofs.Tests.{at-mem, replicate-default}
-use Rattle.hgn.proofs.Checked.{Checked, end, next, AtomsBelow, literal-cases, kept, block, shop-passed, shop-of-order}
+use Rattle.hgn.proofs.Passed.{Checked, end, next, shop-passed, shop-of-order}
+use Rattle.hgn.proofs.Checked.{AtomsBelow, literal-cases, kept, block}
 use Rattle.hgn.proofs.Sheets.{Rise, sound, later}
 
 -- The effects of an action speak of the shop's atoms.

@@ -5,10 +5,9 @@ use mathlib.Core.Path.{_≡_, refl, sym, ap, ap₂, _∙_}
 use mathlib.Core.List.{List, [], _∷_, _++_, zipWith}
 use lib.ListN.{length, take, drop, length-append, length-take, length-drop}
 use lib.Seq.{take-append-seam, drop-append-seam, take-length, length-take-le}
-use borrow.Author.Tests.{leb-true, le-leb, eqb-true, eq-eqb}
-use Rattle.hgn.specs.Verdict.{passed, ask}
-use Rattle.hgn.specs.Trace.{stepCount, mostSteps, step, stepsOf, traceQuestions, checkTrace}
-use Rattle.hgn.proofs.Checked.{ask-passed, andThen-passed}
+use Rattle.hgn.specs.Verdict.{passed}
+use Rattle.hgn.specs.Trace.{stepCount, mostSteps, step, stepsOf, checkTrace}
+use Rattle.hgn.proofs.Passed.{TracePassed, trace-passed}
 
 -- The steps of two lists of one length, of their first parts and of their last.
 module _ {A B C : Type 0} (f : A → B → C) where
@@ -32,18 +31,6 @@ module _ {A B C : Type 0} (f : A → B → C) where
   zip-drop (suc c) (x ∷ xs) [] e = absurd (omega arith)
   zip-drop (suc c) (x ∷ xs) (y ∷ ys) e = zip-drop c xs ys (omega arith)
 
--- What the questions of a trace that passes say.
-pub record Passed (trace : List ℕ) : Type 0 where
-  pub few : stepCount trace ≤ mostSteps
-  pub whole : length trace ≡ 1 + 2 * stepCount trace
-
-pub trace-passed : (trace : List ℕ) → traceQuestions trace ≡ passed → Passed trace
-unfolding traceQuestions
-trace-passed trace e =
-    let a = ask-passed _ _ _ _ (ask-passed _ _ _ _ e .1) in
-    let b = ask-passed _ _ _ _ (a .1) in
-    record { few = leb-true _ _ (a .0); whole = eqb-true _ _ (b .0) }
-
 abbrev moves : List ℕ → List ℕ
 moves trace = take (stepCount trace) (drop 1 trace)
 
@@ -53,36 +40,27 @@ places trace = take (stepCount trace) (drop (1 + stepCount trace) trace)
 -- Where a whole check passed.
 pub trace-sizes : (shop sheet trace : List ℕ) → checkTrace shop sheet trace ≡ passed
     → (1 + (stepCount trace + stepCount trace) ≤ length trace) × (stepCount trace ≤ mostSteps)
-unfolding checkTrace
-trace-sizes shop sheet trace e =
-    let p = trace-passed trace (andThen-passed _ _ e .1) in
-    (omega (arith, p .whole), p .few)
+trace-sizes shop sheet trace e = let p = trace-passed shop sheet trace e in (omega (arith, p .size), p .short)
 
-moves-length : (trace : List ℕ) → traceQuestions trace ≡ passed → length (moves trace) ≡ stepCount trace
-moves-length trace e = length-take-le _ _ (simp length-drop (omega (arith, trace-passed trace e .whole)))
+moves-length : (trace : List ℕ) → TracePassed trace → length (moves trace) ≡ stepCount trace
+moves-length trace p = length-take-le _ _ (simp length-drop (omega (arith, p .size)))
 
-places-length : (trace : List ℕ) → traceQuestions trace ≡ passed → length (places trace) ≡ stepCount trace
-places-length trace e = length-take-le _ _ (simp length-drop (omega (arith, trace-passed trace e .whole)))
+places-length : (trace : List ℕ) → TracePassed trace → length (places trace) ≡ stepCount trace
+places-length trace p = length-take-le _ _ (simp length-drop (omega (arith, p .size)))
 
-pub steps-length : (trace : List ℕ) → traceQuestions trace ≡ passed → length (stepsOf trace) ≡ stepCount trace
+pub steps-length : (trace : List ℕ) → TracePassed trace → length (stepsOf trace) ≡ stepCount trace
 unfolding stepsOf
-steps-length trace e =
-    zip-length step (moves trace) (places trace) (moves-length trace e ∙ sym (places-length trace e))
-    ∙ moves-length trace e
+steps-length trace p =
+    zip-length step (moves trace) (places trace) (moves-length trace p ∙ sym (places-length trace p))
+    ∙ moves-length trace p
 
 -- A trace of these moves and places.
 abbrev pub written : List ℕ → List ℕ → List ℕ
 written ms ps = length ms ∷ (ms ++ ps)
 
 module _ (ms ps : List ℕ) (e : length ps ≡ length ms) where
-  pub written-passes : length ms ≤ mostSteps → traceQuestions (written ms ps) ≡ passed
-  unfolding traceQuestions ask
-  written-passes h =
-      rw (
-        le-leb 1 (length (written ms ps)) (omega arith),
-        le-leb (length ms) mostSteps h,
-        eq-eqb (length (written ms ps)) (1 + 2 * length ms) (omega (arith, e, length-append ms ps)),
-      )
+  pub written-passes : length ms ≤ mostSteps → TracePassed (written ms ps)
+  written-passes h = record { long = omega arith; short = h; size = omega (arith, e, length-append ms ps) }
 
   pub written-steps : stepsOf (written ms ps) ≡ zipWith step ms ps
   unfolding stepsOf
@@ -102,7 +80,7 @@ frontOf c trace = written (take c (moves trace)) (take c (places trace))
 abbrev pub backOf : ℕ → List ℕ → List ℕ
 backOf c trace = written (drop c (moves trace)) (drop c (places trace))
 
-module _ (trace : List ℕ) (e : traceQuestions trace ≡ passed) (c : ℕ) where
+module _ (trace : List ℕ) (e : TracePassed trace) (c : ℕ) where
   both : length (places trace) ≡ length (moves trace)
   both = places-length trace e ∙ sym (moves-length trace e)
 
@@ -112,19 +90,19 @@ module _ (trace : List ℕ) (e : traceQuestions trace ≡ passed) (c : ℕ) wher
   back-lengths : length (drop c (places trace)) ≡ length (drop c (moves trace))
   back-lengths = length-drop c (places trace) ∙ ap (λ (k : ℕ). k - c) both ∙ sym (length-drop c (moves trace))
 
-  pub front-passes : traceQuestions (frontOf c trace) ≡ passed
+  pub front-passes : TracePassed (frontOf c trace)
   front-passes =
       written-passes (take c (moves trace)) (take c (places trace)) front-lengths
-      (omega (arith, length-take c (moves trace), moves-length trace e, trace-passed trace e .few))
+      (omega (arith, length-take c (moves trace), moves-length trace e, e .short))
 
   pub front-steps : stepsOf (frontOf c trace) ≡ take c (stepsOf trace)
   unfolding stepsOf
   front-steps = written-steps (take c (moves trace)) (take c (places trace)) front-lengths ∙ zip-take step c (moves trace) (places trace)
 
-  pub back-passes : traceQuestions (backOf c trace) ≡ passed
+  pub back-passes : TracePassed (backOf c trace)
   back-passes =
       written-passes (drop c (moves trace)) (drop c (places trace)) back-lengths
-      (omega (arith, length-drop c (moves trace), moves-length trace e, trace-passed trace e .few))
+      (omega (arith, length-drop c (moves trace), moves-length trace e, e .short))
 
   pub back-steps : stepsOf (backOf c trace) ≡ drop c (stepsOf trace)
   unfolding stepsOf
