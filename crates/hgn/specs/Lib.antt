@@ -19,6 +19,8 @@ pub mod Replay
 pub mod Search
 -- The same questions as lists, which demand 1 is about.
 pub mod Questions
+-- "The three sheets" once more, of the meaning: the sheets written out, and their rules as propositions.
+pub mod Written
 -- Source document 000, and the statements that are proved.
 pub mod Definition1
 pub mod Demands
