@@ -1,6 +1,9 @@
 -- What the definitions of `specs/` imply, from the tests up to the demands. `Demands` gathers it.
 pub mod Tests
 pub mod Passed
+pub mod Readback
+pub mod Grammar
+pub mod WrittenSheets
 pub mod Checked
 pub mod Methods
 pub mod Joins
