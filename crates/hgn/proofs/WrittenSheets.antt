@@ -78,17 +78,6 @@ no-numbers : (ks : List ℕ) → length ks ≡ 0 → ks ≡ []
 no-numbers [] e = refl
 no-numbers (k ∷ ks) e = absurd (omega arith)
 
-asked-nodes : {F : ℕ} (m : Method) → MethodRules F m → nodeRules m ≡ true
-unfolding nodeRules
-asked-nodes m h =
-    let r = ends-in-last (m .nodes) (h .some-node) in
-    rw (
-      le-leb 1 (length (m .nodes)) (h .some-node),
-      le-leb (length (m .nodes)) 63 (h .few-nodes),
-      eq-eqb (length (lastOf (m .nodes) .formula)) 1 (h .one-goal (r .0) _ (r .1)),
-      eq-eqb (length (lastOf (m .nodes) .after)) 0 (ap length (h .no-afters (r .0) _ (r .1))),
-    )
-
 -- The shop sheet.
 
 module _ (shop : List ℕ) (e : checkShop shop ≡ passed) where
@@ -109,23 +98,27 @@ module _ (shop : List ℕ) (e : checkShop shop ≡ passed) where
       record {
         needs = shop-read .needs m k;
         nodes = shop-read .nodes m k;
-        some-node = leb-true _ _ (rules .0 .0 .0);
-        few-nodes = leb-true _ 63 (rules .0 .0 .1);
+        some-node = omega (arith, leb-true);
+        few-nodes = omega (arith, leb-true);
         one-goal = λ init n q. rw (q, last-of init n) at (eqb-true (length (lastOf (m .nodes) .formula)) 1 (rules .0 .1));
         no-afters = λ init n q. no-numbers (n .after) (rw (q, last-of init n) at (eqb-true (length (lastOf (m .nodes) .after)) 0 (rules .1)));
       }
 
+  shop-length : length (domainRows (domain shop)) ≡ Shop.rowCount shop
+  unfolding rowWords
+  shop-length = ap length (sym (shop-read .rows)) ∙ sym (ap (λ (l : List ℕ). word l 3) shop-sized)
+
   pub shop-rules : DomainRules (Shop.atomCount shop) (domain shop)
-  unfolding Shop.sizesInRange rowWords
+  unfolding Shop.sizesInRange
   shop-rules =
       let p = shop-passed shop e in
       let sizes = simp and-eq-true-iff at (p .sizes) in
       record {
-        some-atom = leb-true 1 _ (sizes .0 .0 .0 .0);
-        few-atoms = leb-true _ 256 (sizes .0 .0 .0 .1);
-        few-actions = rw (p .action-count) (leb-true _ 255 (sizes .0 .0 .1));
-        few-methods = rw (p .method-count) (leb-true _ 255 (sizes .0 .1));
-        few-rows = rw (← shop-read .rows, ← ap (λ (l : List ℕ). word l 3) shop-sized) (leb-true _ 4000 (sizes .1));
+        some-atom = omega (arith, leb-true);
+        few-atoms = omega (arith, leb-true);
+        few-actions = omega (arith, leb-true, p .action-count);
+        few-methods = omega (arith, leb-true, p .method-count);
+        few-rows = omega (arith, leb-true, shop-length);
         actions = shop-read .actions;
         methods = method-rules;
       }
@@ -133,6 +126,15 @@ module _ (shop : List ℕ) (e : checkShop shop ≡ passed) where
   pub shop-is-words : shop ≡ shopWords (Shop.atomCount shop) (domain shop)
   unfolding shopWords
   shop-is-words = let p = shop-passed shop e in rw (p .action-count, p .method-count, ← shop-read .rows) shop-sized
+
+asked-nodes : {F : ℕ} (m : Method) → MethodRules F m → nodeRules m ≡ true
+unfolding nodeRules
+asked-nodes m h =
+    let r = ends-in-last (m .nodes) (h .some-node) in
+    simp and-eq-true-iff (
+      ((le-leb _ _ (h .some-node), le-leb _ _ (h .few-nodes)), eq-eqb _ _ (h .one-goal (r .0) _ (r .1))),
+      eq-eqb _ _ (ap length (h .no-afters (r .0) _ (r .1))),
+    )
 
 -- The words of a domain that keeps the rules pass.
 pub words-pass-shop : (F : ℕ) (d : Domain) → DomainRules F d → checkShop (shopWords F d) ≡ passed
@@ -143,12 +145,9 @@ words-pass-shop F d h =
     record {
       long = omega arith;
       sizes =
-          rw (
-            le-leb 1 F (h .some-atom),
-            le-leb F 256 (h .few-atoms),
-            le-leb (length (d .actions)) 255 (h .few-actions),
-            le-leb (length (d .methods)) 255 (h .few-methods),
-            le-leb (length (domainRows d)) 4000 (h .few-rows),
+          simp and-eq-true-iff (
+            (((le-leb _ _ (h .some-atom), le-leb _ _ (h .few-atoms)), le-leb _ _ (h .few-actions)), le-leb _ _ (h .few-methods)),
+            le-leb _ _ (h .few-rows),
           );
       size = omega (arith, words-length (domainRows d));
       rows = rw (words-shop F d) (p .rows);
@@ -195,8 +194,8 @@ module _ (shop sheet : List ℕ) (e : checkOrder shop sheet ≡ passed) where
       let p = order-passed shop sheet e in
       let sizes = simp and-eq-true-iff at (p .sizes) in
       record {
-        few-goals = rw (p .goal-count) (leb-true _ 64 (sizes .0 .1));
-        few-rows = rw order-length (leb-true _ 4000 (sizes .1));
+        few-goals = omega (arith, leb-true, p .goal-count);
+        few-rows = omega (arith, leb-true, order-length);
         start = order-read-from .start;
         goals = order-read-from .goals;
       }
@@ -217,7 +216,7 @@ words-pass-order shop o e h =
     passed-order shop (orderWords F o) e
     record {
       long = omega arith;
-      sizes = rw (eq-eqb F F refl, le-leb (length (o .goals)) 64 (h .few-goals), le-leb (length (orderRows o)) 4000 (h .few-rows));
+      sizes = simp and-eq-true-iff ((eq-eqb F F refl, le-leb _ _ (h .few-goals)), le-leb _ _ (h .few-rows));
       size = omega (arith, words-length (orderRows o));
       rows = rw (words-rows F o) (p .rows);
       ends = rw (words-rows F o) (p .ends);
@@ -268,7 +267,7 @@ steps-length trace p = sym (ap (λ (l : List ℕ). word l 0) (trace-is-words tra
 traces : (shop sheet trace : List ℕ) → checkOrder shop sheet ≡ passed → TraceIsWritten shop sheet trace
 traces shop sheet trace e = record {
   passed-iff = (
-    (λ h. let p = trace-passed shop sheet trace h in (stepsOf trace, rw (steps-length trace p) (p .short), trace-is-words trace p)),
+    (λ h. let p = trace-passed shop sheet trace h in (stepsOf trace, omega (arith, steps-length trace p), trace-is-words trace p)),
     (λ w. passed-trace shop sheet trace e (rw (w .2) (words-pass-trace (w .0) (w .1)))),
   );
   means = λ xs q. rw q (sym (words-steps xs));
