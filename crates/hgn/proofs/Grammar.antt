@@ -1,24 +1,24 @@
 -- The rows of a sheet that pass their questions, as document 01 lists what may follow: from each place in a sheet, the rows with their
 -- ranges and groups as propositions. Rows pass exactly when they are such rows (`rows-of`, `passes`); such rows are the written parts of a
 -- meaning that keeps the rules, and the other way round. Assumes nothing.
-use Prim.Native.Nat.{ℕ, suc, _+_, _-_, _≤_, _<_}
+use Prim.Native.Nat.{ℕ, suc, _-_, _≤_, _<_}
 use native.Mathlib.Omega.{arith}
-use native.Mathlib.Nat.{zero-add, add-zero}
 use mathlib.Core.Path.{_≡_, refl, sym, subst}
 use mathlib.Core.Bool.{Bool, true, false, cond, _||_, false≢true}
 use mathlib.Core.List.{List, [], _∷_, _++_, map, flatMap, append-nil, append-assoc, List·Memᴰ, List·Memᴰ·head, List·Memᴰ·tail, List·Memᴰ·not-nil}
 use lib.Dec.{eqb}
 use lib.ListN.{length}
 use borrow.Author.Tests.{eqb-true, leb-true, ltb-true, le-leb, lt-ltb}
-use Rattle.hgn.specs.Lists.{any, among, At, here, there}
+use Rattle.hgn.specs.Lists.{any, among}
 use Rattle.hgn.specs.Tag.{Context, atStart, inAction, inEffects, inMethod, inNode, inAlternative, Position, opening, shopFollow, orderFollow}
 use Rattle.hgn.specs.Tag.{mayEnd, contextAfter, begins, leastHere, advance, inRange, rises}
 use Rattle.hgn.specs.Rows.{Row, row}
 use Rattle.hgn.specs.Meaning.{Literal, Formula, Node, Action, Method, Domain, Order}
 use Rattle.hgn.specs.Verdict.{positionAfter}
 use Rattle.hgn.specs.Written.{conjunctRows, alternativeRows, nodeRows, actionRows, methodRows, domainRows, orderRows}
-use Rattle.hgn.specs.Written.{RisingBelow, none, one, more, ConjunctRules, NodeRules, NetworkRules, ActionRules, MethodRules}
+use Rattle.hgn.specs.Written.{RisingBelow, ConjunctRules, NodeRules, NetworkRules, ActionRules, MethodRules}
 use Rattle.hgn.proofs.Passed.{Checked, end, next}
+use Rattle.hgn.proofs.Rules.{atoms, Rise, rise, rising, Network, network-rules, rules-network}
 
 infixr 30 _&_
 abbrev pos : Context → ℕ → ℕ → Position
@@ -236,41 +236,7 @@ passes (wanted {k} true g h r) = passes-next _ 9 _ (follows-wanted k true) (lt-l
 passes (wanted {k} false g h r) = passes-next _ 10 _ (follows-wanted k false) (lt-ltb _ _ h) (le-leb _ _ g) (passes r)
 passes (start g h k) = passes-next _ 12 _ refl (lt-ltb _ _ h) (le-leb _ _ g) (passes k)
 
--- Rules by recursion: numbers that rise from `l` on, below `top`; nodes from node `i` on.
-abbrev Rise : ℕ → ℕ → List ℕ → Type 0
-Rise top l [] = Unit {0}
-Rise top l (k ∷ ks) = (l ≤ k) × (k < top) × Rise top (suc k) ks
-
-abbrev atoms : List Literal → List ℕ
-atoms c = map (λ l. l .atom) c
-
-rising : {top : ℕ} (l : ℕ) (ks : List ℕ) → Rise top l ks → RisingBelow top ks
-rising l [] h = none
-rising l (k ∷ []) h = one (h .1)
-rising l (j ∷ k ∷ ks) h = more (h .2 .0) (rising (suc j) (k ∷ ks) (h .2))
-
-rise-from : {top k : ℕ} {ks : List ℕ} (l : ℕ) → l ≤ k → RisingBelow top (k ∷ ks) → Rise top l (k ∷ ks)
-rise-from l h (one e) = (h, e, tt)
-rise-from l h (more {m} {n} e r) = let k = rise-from (suc m) e r in (h, omega (arith, k .1), k)
-
-rise : {top : ℕ} {ks : List ℕ} → RisingBelow top ks → Rise top 0 ks
-rise none = tt
-rise (one e) = rise-from 0 (omega arith) (one e)
-rise (more e r) = rise-from 0 (omega arith) (more e r)
-
-abbrev Network : ℕ → ℕ → List Node → Type 0
-Network F i [] = Unit {0}
-Network F i (n ∷ ns) = NodeRules F i n × Network F (suc i) ns
-
-network-at : {F : ℕ} (i : ℕ) {ns : List Node} {j : ℕ} {n : Node} → Network F i ns → At ns j n → NodeRules F (i + j) n
-network-at i h here = rw add-zero (h .0)
-network-at {F} i {n = m} h (there {n = j} a) = subst (λ k. NodeRules F k m) (omega arith) (network-at (suc i) (h .1) a)
-
-at-network : {F : ℕ} (i : ℕ) (ns : List Node) → ((j : ℕ) (n : Node) → At ns j n → NodeRules F (i + j) n) → Network F i ns
-at-network i [] h = tt
-at-network {F} i (n ∷ ns) h =
-    (rw add-zero at (h 0 n here), at-network (suc i) ns (λ j m a. subst (λ k. NodeRules F k m) (omega arith) (h (suc j) m (there a))))
-
+-- Lists of which every element keeps a rule.
 each-mem : {A : Type 0} {P : A → Type 0} {xs : List A} → Each P xs → (x : A) → List·Memᴰ x xs → P x
 each-mem nil x m = absurd (List·Memᴰ·not-nil m)
 each-mem {P = P} (h & k) x (List·Memᴰ·head e) = subst P (sym e) h
@@ -441,9 +407,6 @@ pub record DomainRead (F : ℕ) (rs : List Row) (d : Domain) : Type 0 where
   pub needs : (m : Method) → List·Memᴰ m (d .methods) → ConjunctRules F (m .needs)
   pub nodes : (m : Method) → List·Memᴰ m (d .methods) → NetworkRules F (m .nodes)
 
-network-rules : {F : ℕ} {ns : List Node} → Network F 0 ns → NetworkRules F ns
-network-rules {F} h i n a = subst (λ k. NodeRules F k n) (zero-add i) (network-at 0 h a)
-
 pub domain-of : {F : ℕ} {rs : List Row} → Passes shopFollow F opening rs → (d : Domain) × DomainRead F rs d
 unfolding domainRows
 domain-of p = go (rest (rows-of shop (p .rows) (p .ends)))
@@ -533,9 +496,6 @@ module _ {F : ℕ} where
   unfolding flatMap
   network-first o [] some h r = absurd (omega arith)
   network-first o (n ∷ ns) some h r = simp append-assoc (a-node o n (h .0) (network ns (h .1) r))
-
-  rules-network : {ns : List Node} → NetworkRules F ns → Network F 0 ns
-  rules-network {ns} h = at-network 0 ns (λ j n a. subst (λ k. NodeRules F k n) (sym (zero-add j)) (h j n a))
 
   methods : (ms : List Method) → Each (MethodRules F) ms → {c : Context} {l n : ℕ} → Between c → Rows F shop c l n (flatMap methodRows ms)
   unfolding methodRows flatMap

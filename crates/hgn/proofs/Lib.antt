@@ -2,7 +2,9 @@
 pub mod Tests
 pub mod Passed
 pub mod Readback
+pub mod Rules
 pub mod Grammar
+pub mod Traces
 pub mod WrittenSheets
 pub mod Checked
 pub mod Methods
@@ -34,7 +36,5 @@ pub mod Searches
 pub mod Cases
 pub mod Demands
 pub mod Limits
-pub mod Traces
-pub mod Sheets
 pub mod Starts
 pub mod JoinSheets

@@ -1,25 +1,24 @@
 -- A sheet passes its check exactly when it is the words of a meaning that keeps document 01's rules. Assumes nothing.
 use Prim.Native.Nat.{ℕ, _+_, _*_, _≤_}
 use native.Mathlib.Omega.{arith}
-use mathlib.Core.Path.{_≡_, refl, sym, ap, ap₂, _∙_, subst}
+use mathlib.Core.Path.{_≡_, refl, sym, ap, _∙_, subst}
 use mathlib.Core.Bool.{true, and-eq-true-iff}
-use mathlib.Core.List.{List, [], _∷_, _++_, map, List·Memᴰ}
-use lib.ListN.{length, length-append, length-map}
+use mathlib.Core.List.{List, [], _∷_, _++_, List·Memᴰ}
+use lib.ListN.{length}
 use borrow.Author.Tests.{eqb-true, leb-true, le-leb, eq-eqb}
 use Rattle.hgn.specs.Rows.{word}
 use Rattle.hgn.specs.Meaning.{Node, Method, Domain, Order, domainOf, orderOf, lastOf}
-use Rattle.hgn.specs.Run.{Step}
 use Rattle.hgn.specs.Verdict.{passed}
 use Rattle.hgn.specs.Shop as Shop
 use Rattle.hgn.specs.Shop.{shopRows, domain, nodeRules, checkShop}
 use Rattle.hgn.specs.Order as Order
 use Rattle.hgn.specs.Order.{order, checkOrder}
-use Rattle.hgn.specs.Trace.{step, stepCount, stepsOf}
-use Rattle.hgn.specs.Search.{traceWords}
+use Rattle.hgn.specs.Trace.{stepsOf}
 use Rattle.hgn.specs.Written.{domainRows, orderRows, rowWords, shopWords, orderWords, MethodRules, DomainRules, OrderRules}
 use Rattle.hgn.specs.Written.{ShopIsWritten, OrderIsWritten, TraceIsWritten, SheetsAreWritten}
-use Rattle.hgn.proofs.Passed.{shop-passed, passed-shop, order-passed, passed-order, TracePassed, trace-passed, passed-trace}
-use Rattle.hgn.proofs.Readback.{domain-read, order-read, columns-read, columns-back, words-read, words-back, words-length}
+use Rattle.hgn.proofs.Passed.{shop-passed, passed-shop, order-passed, passed-order, trace-passed, passed-trace}
+use Rattle.hgn.proofs.Traces.{words-steps, words-pass-trace, steps-length, trace-is-words}
+use Rattle.hgn.proofs.Readback.{domain-read, order-read, words-read, words-back, words-length}
 use Rattle.hgn.proofs.Grammar.{DomainRead, OrderRead, domain-of, domain-passes, order-of, order-passes}
 
 -- Words.
@@ -233,36 +232,6 @@ orders shop sheet e = record {
 }
 
 -- The trace.
-
-pub trace-is-words : (trace : List ℕ) → TracePassed trace → trace ≡ traceWords (stepsOf trace)
-unfolding traceWords stepsOf
-trace-is-words trace p = go trace (p .long) (p .size)
-  where
-    go : (trace : List ℕ) → 1 ≤ length trace → length trace ≡ 1 + 2 * stepCount trace → trace ≡ traceWords (stepsOf trace)
-    go [] h e = absurd (omega arith)
-    go (L ∷ rest) h e =
-        let c = columns-back step (λ x. x .move) (λ x. x .place) (λ x. refl) (λ m p. refl) (λ m p. refl) (L ∷ []) rest L (omega arith) in
-        ap₂ {C = List ℕ} _∷_ (c .0) (c .1)
-
-module _ (xs : List Step) where
-  pub words-steps : stepsOf (traceWords xs) ≡ xs
-  unfolding stepsOf traceWords
-  words-steps = columns-read step (λ x. x .move) (λ x. x .place) (λ x. refl) (λ m p. refl) (λ m p. refl) (length xs ∷ []) xs
-
-  pub trace-length : length (traceWords xs) ≡ 1 + 2 * length xs
-  unfolding traceWords
-  trace-length =
-      omega
-      (arith, length-append (map (λ x. x .move) xs) (map (λ x. x .place) xs), length-map xs (λ x. x .move), length-map xs (λ x. x .place))
-
-  -- The words of at most 4,096 steps pass.
-  pub words-pass-trace : length xs ≤ 4096 → TracePassed (traceWords xs)
-  unfolding traceWords
-  words-pass-trace h = record { long = omega arith; short = h; size = trace-length }
-
-pub steps-length : (trace : List ℕ) → TracePassed trace → length (stepsOf trace) ≡ stepCount trace
-unfolding traceWords
-steps-length trace p = sym (ap (λ (l : List ℕ). word l 0) (trace-is-words trace p))
 
 traces : (shop sheet trace : List ℕ) → checkOrder shop sheet ≡ passed → TraceIsWritten shop sheet trace
 traces shop sheet trace e = record {
