@@ -17,7 +17,8 @@ use Rattle.hgn.specs.Run.{Move, startOf}
 use Rattle.hgn.specs.Demands.{EffectsAreGamma, In, InEffect, Reached, first, next, StatesAreSetsOfAtoms}
 use Rattle.hgn.proofs.Tests.{beq-true, eq-beq, replicate-default, among-true, true-among}
 use Rattle.hgn.proofs.Steps.{Moved, by-release, by-action, by-method, took}
-use Rattle.hgn.proofs.Checked.{Rising, effects-rise}
+use Rattle.hgn.proofs.Rules.{atoms, Rise, rise}
+use Rattle.hgn.proofs.WrittenSheets.{shop-rules}
 
 length-assign : (b : Bool) (atoms : List ℕ) (s : State) → length (assign b atoms s) ≡ length s
 unfolding assign
@@ -78,11 +79,11 @@ unfolding γ
         (λ k. inl (k, λ m. false≢true (sym f ∙ mem-among m)), ⊎-elim (λ k. k .0) (λ m. absurd (false≢true (sym e ∙ mem-among m))))
 
 -- An atom below all the others can as well be set last.
-assign-above : (b v : Bool) (a i : ℕ) (ls : List Literal) (s : State) → a < i → Rising i ls
+assign-above : (b v : Bool) (a top i : ℕ) (ls : List Literal) (s : State) → a < i → Rise top i (atoms ls)
     → assign b (atomsOf b ls) (set s a v) ≡ set (assign b (atomsOf b ls) s) a v
 unfolding assign atomsOf
-assign-above b v a i [] s h r = refl
-assign-above b v a i (l ∷ ls) s h r = go (Bool·beq (l .sign) b) (λ s. assign-above b v a _ ls s (omega arith) (r .1))
+assign-above b v a top i [] s h r = refl
+assign-above b v a top i (l ∷ ls) s h r = go (Bool·beq (l .sign) b) (λ s. assign-above b v a top _ ls s (omega arith) (r .2))
   where
     go : (x : Bool) → ((s : State) → assign b (atomsOf b ls) (set s a v) ≡ set (assign b (atomsOf b ls) s) a v)
         → assign b (cond x (l .atom ∷ atomsOf b ls) (atomsOf b ls)) (set s a v) ≡ set (assign b (cond x (l .atom ∷ atomsOf b ls) (atomsOf b ls)) s) a v
@@ -90,18 +91,18 @@ assign-above b v a i (l ∷ ls) s h r = go (Bool·beq (l .sign) b) (λ s. assign
     go false ih = ih s
 
 -- Where the atoms rise, none stands twice, and row after row is the two passes.
-rows-γ : (i : ℕ) (ls : List Literal) (s : State) → Rising i ls → byRows s ls ≡ γ s ls
+rows-γ : (top i : ℕ) (ls : List Literal) (s : State) → Rise top i (atoms ls) → byRows s ls ≡ γ s ls
 unfolding byRows γ assign atomsOf
-rows-γ i [] s r = refl
-rows-γ i (l ∷ ls) s r = rows-γ _ ls (set s (l .atom) (l .sign)) (r .1) ∙ go (l .sign)
+rows-γ top i [] s r = refl
+rows-γ top i (l ∷ ls) s r = rows-γ top _ ls (set s (l .atom) (l .sign)) (r .2) ∙ go (l .sign)
   where
     go : (x : Bool) → γ (set s (l .atom) x) ls ≡ γ s (record { sign = x; atom = l .atom } ∷ ls)
-    go true = ap (assign true (atomsOf true ls)) (assign-above false true (l .atom) _ ls s (omega arith) (r .1))
+    go true = ap (assign true (atomsOf true ls)) (assign-above false true (l .atom) top _ ls s (omega arith) (r .2))
     go false = refl
 
 pub effects-are-gamma : EffectsAreGamma
 effects-are-gamma shop e a m s h =
-    let same = rows-γ 0 (a .effects) s (effects-rise shop e a m) in
+    let same = rows-γ _ 0 (a .effects) s (rise (shop-rules shop e .actions a m .effects)) in
     let sets : (p : ℕ) → p < 256 → In (γ s (a .effects)) p ↔ InEffect s (a .effects) p = λ p k. γ-set s (a .effects) p (rw h k) in
     record { by-sets = sets; by-rows = λ p k. rw same (sets p k); same = same }
 

@@ -191,12 +191,38 @@ method-block m =
     (none-append test (conjunctRows 3 4 (m .needs)) _ (conjunct-none test 3 4 refl refl (m .needs))
     (nodes-none test refl refl refl refl refl (m .nodes)))
 
-method-read : (m : Method) → methodOf (methodRows m) ≡ m
+pub method-read : (m : Method) → methodOf (methodRows m) ≡ m
 unfolding methodOf methodRows literals any
 method-read m =
     ap₂ (λ (c : List Literal) (ns : List Node). record { needs = c; nodes = ns })
     (literals-read 3 4 refl (m .needs) (flatMap nodeRows (m .nodes)) (nodes-none (λ k. eqb k 3 || eqb k 4) refl refl refl refl refl (m .nodes)))
     (nodes-read (row 2 0 ∷ conjunctRows 3 4 (m .needs)) (conjunct-none (λ k. eqb k 7) 3 4 refl refl (m .needs)) (m .nodes))
+
+-- A method's rows before its first node and at its nodes, and what its needs are among them.
+method-head : (m : Method) → upTo (has 7) (methodRows m) ≡ row 2 0 ∷ conjunctRows 3 4 (m .needs)
+unfolding methodRows upTo
+method-head m =
+    let none = conjunct-none (λ k. eqb k 7) 3 4 refl refl (m .needs) in
+    let fresh = rw append-nil at (blocks (has 7) nodeRows node-block (m .nodes) [] refl .1) in
+    rw (upto-skip (has 7) (conjunctRows 3 4 (m .needs)) (flatMap nodeRows (m .nodes)) none, fresh, append-nil)
+
+pub method-nodes : (m : Method) → parts (has 7) (methodRows m) ≡ map nodeRows (m .nodes)
+unfolding methodRows any
+method-nodes m =
+    parts-blocks (has 7) nodeRows node-block (row 2 0 ∷ conjunctRows 3 4 (m .needs)) (conjunct-none (λ k. eqb k 7) 3 4 refl refl (m .needs)) (m .nodes)
+
+pub method-needs : (m : Method) → literals 3 4 (methodRows m) ≡ literals 3 4 (upTo (has 7) (methodRows m))
+unfolding methodOf literals
+method-needs m =
+    ap (λ (m : Method). m .needs) (method-read m) ∙ sym (ap (literals 3 4) (method-head m) ∙ conjunct-read 3 4 refl (m .needs))
+
+-- The literals wanted in a node with one alternative.
+pub node-wanted : (ks : List ℕ) (c : List Literal) → literals 9 10 (nodeRows (record { after = ks; formula = c ∷ [] })) ≡ c
+unfolding nodeRows alternativeRows flatMap literals
+node-wanted ks c =
+    rw append-nil
+    (literals-skip 9 10 (map (row 11) ks) (row 8 0 ∷ conjunctRows 9 10 c) (values-none (λ k. eqb k 9 || eqb k 10) 11 refl ks)
+    ∙ conjunct-read 9 10 refl c)
 
 -- What is kept of a list of parts.
 module _ {A : Type 0} (test : List Row → Bool) (f : A → List Row) where

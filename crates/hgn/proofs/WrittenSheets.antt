@@ -3,22 +3,23 @@ use Prim.Native.Nat.{ℕ, _+_, _*_, _≤_}
 use native.Mathlib.Omega.{arith}
 use mathlib.Core.Path.{_≡_, refl, sym, ap, _∙_, subst}
 use mathlib.Core.Bool.{true, and-eq-true-iff}
-use mathlib.Core.List.{List, [], _∷_, _++_, List·Memᴰ}
+use mathlib.Core.List.{List, [], _∷_, _++_, map, List·Memᴰ}
 use lib.ListN.{length}
 use borrow.Author.Tests.{eqb-true, leb-true, le-leb, eq-eqb}
+use Rattle.hgn.specs.Lists.{parts}
 use Rattle.hgn.specs.Rows.{word}
-use Rattle.hgn.specs.Meaning.{Node, Method, Domain, Order, domainOf, orderOf, lastOf}
+use Rattle.hgn.specs.Meaning.{Node, Method, Domain, Order, opens, domainOf, orderOf, lastOf}
 use Rattle.hgn.specs.Verdict.{passed}
 use Rattle.hgn.specs.Shop as Shop
 use Rattle.hgn.specs.Shop.{shopRows, domain, nodeRules, checkShop}
 use Rattle.hgn.specs.Order as Order
 use Rattle.hgn.specs.Order.{order, checkOrder}
 use Rattle.hgn.specs.Trace.{stepsOf}
-use Rattle.hgn.specs.Written.{domainRows, orderRows, rowWords, shopWords, orderWords, MethodRules, DomainRules, OrderRules}
+use Rattle.hgn.specs.Written.{actionRows, methodRows, domainRows, orderRows, rowWords, shopWords, orderWords, MethodRules, DomainRules, OrderRules}
 use Rattle.hgn.specs.Written.{ShopIsWritten, OrderIsWritten, TraceIsWritten, SheetsAreWritten}
 use Rattle.hgn.proofs.Passed.{shop-passed, passed-shop, order-passed, passed-order, trace-passed, passed-trace}
 use Rattle.hgn.proofs.Traces.{words-steps, words-pass-trace, steps-length, trace-is-words}
-use Rattle.hgn.proofs.Readback.{domain-read, order-read, words-read, words-back, words-length}
+use Rattle.hgn.proofs.Readback.{domain-parts, domain-read, order-read, words-read, words-back, words-length}
 use Rattle.hgn.proofs.Grammar.{DomainRead, OrderRead, domain-of, domain-passes, order-of, order-passes}
 
 -- Words.
@@ -59,13 +60,13 @@ words-order F o = ap orderOf (words-rows F o) ∙ order-read o
 
 -- A method's node rules, asked and said.
 
-last-of : (init : List Node) (n : Node) → lastOf (init ++ (n ∷ [])) ≡ n
+pub last-of : (init : List Node) (n : Node) → lastOf (init ++ (n ∷ [])) ≡ n
 unfolding lastOf
 last-of [] n = refl
 last-of (m ∷ []) n = refl
 last-of (m ∷ k ∷ init) n = last-of (k ∷ init) n
 
-ends-in-last : (ns : List Node) → 1 ≤ length ns → (init : List Node) × (ns ≡ init ++ (lastOf ns ∷ []))
+pub ends-in-last : (ns : List Node) → 1 ≤ length ns → (init : List Node) × (ns ≡ init ++ (lastOf ns ∷ []))
 unfolding lastOf
 ends-in-last [] h = absurd (omega arith)
 ends-in-last (n ∷ []) h = ([], refl)
@@ -106,6 +107,10 @@ module _ (shop : List ℕ) (e : checkShop shop ≡ passed) where
   shop-length : length (domainRows (domain shop)) ≡ Shop.rowCount shop
   unfolding rowWords
   shop-length = ap length (sym (shop-read .rows)) ∙ sym (ap (λ (l : List ℕ). word l 3) shop-sized)
+
+  -- The rows of each action, then those of each method.
+  pub shop-parts : parts opens (shopRows shop) ≡ map actionRows (domain shop .actions) ++ map methodRows (domain shop .methods)
+  shop-parts = ap (parts opens) (shop-read .rows) ∙ domain-parts (domain shop)
 
   pub shop-rules : DomainRules (Shop.atomCount shop) (domain shop)
   unfolding Shop.sizesInRange
