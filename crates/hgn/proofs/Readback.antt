@@ -271,6 +271,13 @@ order-read o =
     (values-read 12 (o .start) (flatMap nodeRows (o .goals)) (nodes-none (λ k. eqb k 12) refl refl refl refl refl (o .goals)))
     (nodes-read (map (row 12) (o .start)) (values-none (λ k. eqb k 7) 12 refl (o .start)) (o .goals))
 
+-- No row of an order begins an action or a method.
+pub none-opens : (o : Order) → any opens (orderRows o) ≡ false
+unfolding orderRows
+none-opens o =
+    let test : ℕ → Bool = λ k. eqb k 1 || eqb k 2 in
+    none-append test (map (row 12) (o .start)) _ (values-none test 12 refl (o .start)) (nodes-none test refl refl refl refl refl (o .goals))
+
 -- Two parallel arrays of numbers behind sizes, read as a list of pairs: rows of tags and values, steps of moves and places.
 
 module _ {C : Type 0} (pair : ℕ → ℕ → C) (first second : C → ℕ) (whole : (x : C) → pair (first x) (second x) ≡ x)

@@ -2,11 +2,11 @@
 use Prim.Native.Nat.{ℕ, _+_, _*_, _≤_}
 use native.Mathlib.Omega.{arith}
 use mathlib.Core.Path.{_≡_, refl, sym, ap, _∙_, subst}
-use mathlib.Core.Bool.{true, and-eq-true-iff}
+use mathlib.Core.Bool.{true, false, and-eq-true-iff}
 use mathlib.Core.List.{List, [], _∷_, _++_, map, List·Memᴰ}
 use lib.ListN.{length}
 use borrow.Author.Tests.{eqb-true, leb-true, le-leb, eq-eqb}
-use Rattle.hgn.specs.Lists.{parts}
+use Rattle.hgn.specs.Lists.{any, parts}
 use Rattle.hgn.specs.Rows.{word}
 use Rattle.hgn.specs.Meaning.{Node, Method, Domain, Order, opens, domainOf, orderOf, lastOf}
 use Rattle.hgn.specs.Verdict.{passed}
@@ -19,7 +19,7 @@ use Rattle.hgn.specs.Written.{actionRows, methodRows, domainRows, orderR
 use Rattle.hgn.specs.Written.{ShopIsWritten, OrderIsWritten, TraceIsWritten, SheetsAreWritten}
 use Rattle.hgn.proofs.Passed.{shop-passed, passed-shop, order-passed, passed-order, trace-passed, passed-trace}
 use Rattle.hgn.proofs.Traces.{words-steps, words-pass-trace, steps-length, trace-is-words}
-use Rattle.hgn.proofs.Readback.{domain-parts, domain-read, order-read, words-read, words-back, words-length}
+use Rattle.hgn.proofs.Readback.{domain-parts, domain-read, order-read, none-opens, words-read, words-back, words-length}
 use Rattle.hgn.proofs.Grammar.{DomainRead, OrderRead, domain-of, domain-passes, order-of, order-passes}
 
 -- Words.
@@ -104,7 +104,7 @@ module _ (shop : List ℕ) (e : checkShop shop ≡ passed) where
         no-afters = λ init n q. no-numbers (n .after) (rw (q, last-of init n) at (eqb-true (length (lastOf (m .nodes) .after)) 0 (rules .1)));
       }
 
-  shop-length : length (domainRows (domain shop)) ≡ Shop.rowCount shop
+  pub shop-length : length (domainRows (domain shop)) ≡ Shop.rowCount shop
   unfolding rowWords
   shop-length = ap length (sym (shop-read .rows)) ∙ sym (ap (λ (l : List ℕ). word l 3) shop-sized)
 
@@ -187,6 +187,9 @@ module _ (shop sheet : List ℕ) (e : checkOrder shop sheet ≡ passed) where
 
   order-sized : sheet ≡ Order.atomCount sheet ∷ Order.goalCount sheet ∷ rowWords (Order.orderRows sheet)
   order-sized = let p = order-passed shop sheet e in order-words sheet (p .long) (p .size)
+
+  pub order-opens-none : any opens (Order.orderRows sheet) ≡ false
+  order-opens-none = ap (any opens) (order-read-from .rows) ∙ none-opens (order sheet)
 
   pub order-length : length (orderRows (order sheet)) ≡ Order.rowCount sheet
   unfolding rowWords
