@@ -248,7 +248,7 @@ mem-each (x ∷ xs) h = h x (List·Memᴰ·head refl) & mem-each xs (λ y m. h y
 
 -- What the rows from a context on are: the end of the part that the sheet stands in, and whole parts.
 
--- What an order's rows and a shop's say of a method; the limits and the last node are the check's own question.
+-- What a method's rows say of it. How many nodes it has, and what its last node has, is asked apart.
 record MethodRead (F : ℕ) (m : Method) : Type 0 where
   needs : ConjunctRules F (m .needs)
   nodes : Network F 0 (m .nodes)

@@ -80,7 +80,7 @@ abbrev pub NetworkRules : ℕ → List Node → Type 0
 NetworkRules F ns = (i : ℕ) (n : Node) → At ns i n → NodeRules F i n
 
 pub record ActionRules (F : ℕ) (a : Action) : Type 0 where
-  pub cost : a .cost ≤ 65_535
+  pub cost : a .cost ≤ 65535
   pub needs : ConjunctRules F (a .needs)
   pub effects : ConjunctRules F (a .effects)
 
