@@ -6,6 +6,7 @@ use Rattle.hgn.proofs.Replayed.{demand-2}
 use Rattle.hgn.proofs.Searches.{demand-2-of-search, search-agrees-with-replay}
 use Rattle.hgn.proofs.Cuts.{demand-3}
 use Rattle.hgn.proofs.Replays.{demand-3-of-replays}
+use Rattle.hgn.proofs.WrittenSheets.{sheets-are-written}
 use Rattle.hgn.proofs.Derivations.{accepted-is-derivation}
 use Rattle.hgn.proofs.InOrder.{questions-in-order}
 use Rattle.hgn.proofs.Joins.{first-before-second}
@@ -26,6 +27,7 @@ promised = record {
 
 pub read : Read
 read = record {
+  sheets-are-written = sheets-are-written;
   accepted-is-derivation = accepted-is-derivation;
   questions-in-order = questions-in-order;
   first-before-second = first-before-second;

@@ -2,48 +2,35 @@
 -- Assumes nothing.
 use Prim.Native.Nat.{ℕ, suc, _+_, _≤_, _<_}
 use native.Mathlib.Omega.{arith}
-use native.Mathlib.Nat.{add-zero, zero-add, add-suc, suc-add}
+use native.Mathlib.Nat.{add-zero, zero-add}
 use mathlib.Core.Path.{_≡_, refl, sym, _∙_}
-use mathlib.Core.Logic.{⊎-elim}
-use mathlib.Core.List.{List, [], _∷_, _++_, map, List·Memᴰ, List·Memᴰ·append-cases, Memᴰ·append-left, Memᴰ·of-map}
+use mathlib.Core.List.{List, [], _∷_, _++_, map, List·Memᴰ, Memᴰ·append-left}
 use mathlib.Core.Option.{none}
 use lib.ListN.{length}
-use Rattle.hgn.specs.Lists.{At, here, there, below}
+use Rattle.hgn.specs.Lists.{At, here, there}
 use Rattle.hgn.specs.Meaning.{Node, Order}
 use Rattle.hgn.specs.Network.{order, Waiting, enter, goalsOf}
 use Rattle.hgn.specs.Join.{raised, join}
 use Rattle.hgn.specs.Definition1.{by-row}
 use Rattle.hgn.specs.Questions.{passed}
+use Rattle.hgn.specs.Shop as Shop
 use Rattle.hgn.specs.Shop.{checkShop}
+use Rattle.hgn.specs.Written.{NetworkRules}
 use Rattle.hgn.specs.Readings.{FromSheets, by-sheet, by-join, FirstBeforeSecond}
-use Rattle.hgn.proofs.Tests.{below-lt, lt-below}
-use Rattle.hgn.proofs.Checked.{Numbered, order-numbered, shop-of-order}
+use Rattle.hgn.proofs.Tests.{lt-below}
+use Rattle.hgn.proofs.Passed.{shop-of-order}
+use Rattle.hgn.proofs.Rules.{network-join}
+use Rattle.hgn.proofs.WrittenSheets.{order-rules}
+use Rattle.hgn.proofs.Checked.{Numbered, numbered}
 
--- Two networks one after the other.
-numbered-append : (i : ℕ) (ns ms : List Node) → Numbered i ns → Numbered (i + length ns) ms → Numbered i (ns ++ ms)
-numbered-append i [] ms h k = rw add-zero at k
-numbered-append i (n ∷ ns) ms h k = (h .0, numbered-append (suc i) ns ms (h .1) (rw (suc-add, ← add-suc) k))
+-- The goals of an order of checked sheets keep the rules, and the shop sheet passes.
+rules-of : {shop : List ℕ} {o : Order} → FromSheets shop o → (checkShop shop ≡ passed) × NetworkRules (Shop.atomCount shop) (o .goals)
+rules-of {shop} (by-sheet sheet e) = (shop-of-order shop sheet e, order-rules shop sheet e .goals)
+rules-of (by-join {a} {b} f g) = let r = rules-of f in (r .0, network-join a b (r .1) (rules-of g .1))
 
--- A network's nodes raised by `g`.
-numbered-raised : (g i : ℕ) (ns : List Node) → Numbered i ns → Numbered (g + i) (map (raised g) ns)
-unfolding raised
-numbered-raised g i [] h = tt
-numbered-raised g i (n ∷ ns) h = (lower, rw add-suc at (numbered-raised g (suc i) ns (h .1)))
-  where
-    lower : (k : ℕ) → List·Memᴰ k (below g ++ map (λ j. g + j) (n .after)) → k < g + i
-    lower k m =
-        ⊎-elim (λ m. omega (arith, below-lt g k m)) (λ m. let (j, l, e) = Memᴰ·of-map _ (n .after) m in omega (arith, h .0 j l))
-        (List·Memᴰ·append-cases (below g) m)
-
-numbered-join : (a b : Order) → Numbered 0 (a .goals) → Numbered 0 (b .goals) → Numbered 0 (join a b .goals)
-unfolding join
-numbered-join a b h k =
-    numbered-append 0 (a .goals) _ h (rw zero-add (rw add-zero at (numbered-raised (length (a .goals)) 0 (b .goals) k)))
-
--- The goals of an order of checked sheets come only after lower goals, and the shop sheet passes.
+-- So they come only after lower goals.
 pub from-sheets : {shop : List ℕ} {o : Order} → FromSheets shop o → (checkShop shop ≡ passed) × Numbered 0 (o .goals)
-from-sheets {shop} (by-sheet sheet e) = (shop-of-order shop sheet e, order-numbered shop sheet e)
-from-sheets (by-join {a} {b} f g) = let r = from-sheets f in (r .0, numbered-join a b (r .1) (from-sheets g .1))
+from-sheets f = let r = rules-of f in (r .0, numbered (r .1))
 
 -- The goal at place `k`: its name, and its node.
 goal-at : (i : ℕ) {k : ℕ} {q : Waiting} (ns : List Node) → At (enter order none i ns) k q

@@ -1,19 +1,16 @@
 -- A state that a run on checked sheets leaves can be the start of an order sheet. Assumes nothing.
 use Prim.Native.Nat.{ℕ, zero, suc, _+_, _≤_, _<_}
 use native.Mathlib.Omega.{arith}
-use mathlib.Core.Path.{_≡_, refl, sym, ap, ap₂, _∙_, subst}
+use mathlib.Core.Path.{_≡_, refl, sym, ap, ap₂, _∙_}
 use mathlib.Core.Bool.{Bool, true, false, cond, Bool·beq, false≢true}
-use mathlib.Core.Logic.{⊎-elim}
-use mathlib.Core.List.{List, [], _∷_, _++_, append-assoc}
-use mathlib.Core.List.{List·Memᴰ, List·Memᴰ·head, List·Memᴰ·tail, List·Memᴰ·not-nil, List·Memᴰ·cases-cons, Memᴰ·of-map}
-use lib.Dec.{eqb, ltb}
-use lib.ListN.{length, getD, set, replicate, length-append, length-set, length-replicate}
+use mathlib.Core.List.{List, [], _∷_, _++_, map, flatMap, append-assoc}
+use mathlib.Core.List.{List·Memᴰ, List·Memᴰ·head, List·Memᴰ·tail}
+use lib.Dec.{eqb}
+use lib.ListN.{length, getD, set, replicate, length-append, length-map, length-set, length-replicate}
 use lib.Seq.{getD-set-other, set-append-seam}
-use borrow.Author.Tests.{eqb-true, eqb-false, ltb-true}
-use Rattle.hgn.specs.Lists.{among, any, parts, keep, upTo}
-use Rattle.hgn.specs.Tag.{Position, shopFollow, orderFollow, inRange, begins}
-use Rattle.hgn.specs.Rows.{Row, has, valuesOf, mostRows}
-use Rattle.hgn.specs.Meaning.{Literal, Action, literals, actionOf, opens, headed, domainOf, orderOf}
+use borrow.Author.Tests.{eqb-true, eqb-false}
+use Rattle.hgn.specs.Rows.{row, mostRows}
+use Rattle.hgn.specs.Meaning.{Literal, Order}
 use Rattle.hgn.specs.State.{State, mostAtoms, emptyState, assign, atomsOf, γ}
 use Rattle.hgn.specs.Run.{Step, Problem, startOf, problemOf, strict}
 use Rattle.hgn.specs.Questions.{passed}
@@ -23,63 +20,22 @@ use Rattle.hgn.specs.Order as Sheet
 use Rattle.hgn.specs.Order.{order, checkOrder}
 use Rattle.hgn.specs.Definition1.{Derivation, base, satisfaction, application, decomposition}
 use Rattle.hgn.proofs.Tests.{at-mem, replicate-default}
-use Rattle.hgn.proofs.Passed.{Checked, end, next, shop-passed, shop-of-order}
-use Rattle.hgn.proofs.Checked.{AtomsBelow, literal-cases, kept, block}
-use Rattle.hgn.proofs.Sheets.{Rise, sound, later}
+use Rattle.hgn.specs.Written.{nodeRows, orderRows, orderWords, ConjunctRules}
+use Rattle.hgn.proofs.Passed.{shop-of-order}
+use Rattle.hgn.proofs.Rules.{atoms, Rise, rising, rising-top}
+use Rattle.hgn.proofs.WrittenSheets.{shop-rules, order-rules, order-length, words-order, words-pass-order}
 
--- The effects of an action speak of the shop's atoms.
-
-literals-below : (t f : ℕ) {F : ℕ} {p : Position} {rs : List Row}
-    → ((p : Position) (v : ℕ) → inRange F p t v ≡ ltb v F) → ((p : Position) (v : ℕ) → inRange F p f v ≡ ltb v F)
-    → Checked shopFollow F p rs → AtomsBelow F (literals t f (upTo opens rs))
-unfolding literals upTo
-literals-below t f at-t at-f end = λ l m. absurd (List·Memᴰ·not-nil m)
-literals-below t f {F} at-t at-f (next {p} {r} {rs} allowed range rise c) =
-    literal-cases t f (AtomsBelow F) r rs (λ l m. absurd (List·Memᴰ·not-nil m))
-    (λ e. first (sym (at-t p (r .value)) ∙ (rw e at range)) (literals-below t f at-t at-f c))
-    (λ e. first (sym (at-f p (r .value)) ∙ (rw e at range)) (literals-below t f at-t at-f c))
-    (λ _ _ _ _. literals-below t f at-t at-f c)
-  where
-    first : {s : Bool} {ls : List Literal} → ltb (r .value) F ≡ true → AtomsBelow F ls
-        → AtomsBelow F (record { sign = s; atom = r .value } ∷ ls)
-    first h ih l m = ⊎-elim (λ q. let e = ap (λ l. l .atom) q in omega (arith, ltb-true)) (ih l) (List·Memᴰ·cases-cons m)
-
-effects-below : (shop : List ℕ) → checkShop shop ≡ passed → (a : Action) → List·Memᴰ a (domain shop .actions)
-    → AtomsBelow (Shop.atomCount shop) (a .effects)
-unfolding domain domainOf actionOf literals inRange begins among any
-effects-below shop e a m =
-    let c = shop-passed shop e .rows in
-    let (b, m, q) = Memᴰ·of-map actionOf (keep (headed 1) (parts opens (Shop.shopRows shop))) m in
-    let k = kept (headed 1) (parts opens (Shop.shopRows shop)) m in
-    subst (λ (a : Action). AtomsBelow (Shop.atomCount shop) (a .effects)) q
-    (block 1 actionOf (λ a. AtomsBelow (Shop.atomCount shop) (a .effects)) (λ p v rs g d. literals-below 5 6 (λ p v. refl) (λ p v. refl) d)
-    c (k .0) (k .1))
-
-atoms-below : (F : ℕ) (b : Bool) (ls : List Literal) → AtomsBelow F ls → (a : ℕ) → List·Memᴰ a (atomsOf b ls) → a < F
+-- The atoms of a sign are among all atoms.
+atoms-in : (b : Bool) (ls : List Literal) (a : ℕ) → List·Memᴰ a (atomsOf b ls) → List·Memᴰ a (atoms ls)
 unfolding atomsOf
-atoms-below F b [] h a m = absurd (List·Memᴰ·not-nil m)
-atoms-below F b (l ∷ ls) h a m = go (Bool·beq (l .sign) b) (atoms-below F b ls (λ k i. h k (List·Memᴰ·tail i)) a) m
+atoms-in b [] a m = m
+atoms-in b (l ∷ ls) a m = go (Bool·beq (l .sign) b) (atoms-in b ls a) m
   where
-    go : (x : Bool) → (List·Memᴰ a (atomsOf b ls) → a < F) → List·Memᴰ a (cond x (l .atom ∷ atomsOf b ls) (atomsOf b ls)) → a < F
-    go true ih (List·Memᴰ·head e) = rw e (h l (List·Memᴰ·head refl))
-    go true ih (List·Memᴰ·tail m) = ih m
-    go false ih m = ih m
-
--- So do an order's 12 rows.
-start-range : (F : ℕ) (p : Position) (t v : ℕ) → t ≡ 12 → inRange F p t v ≡ true → ltb v F ≡ true
-unfolding inRange begins among any
-start-range F p t v e h = rw e at h
-
-start-below : {F : ℕ} {p : Position} {rs : List Row} → Checked orderFollow F p rs → (a : ℕ) → List·Memᴰ a (valuesOf 12 rs) → a < F
-unfolding valuesOf
-start-below end a m = absurd (List·Memᴰ·not-nil m)
-start-below {F} (next {p} {r} {rs} allowed range rise c) a m = go (has 12 r) refl (start-below c a) m
-  where
-    go : (x : Bool) → has 12 r ≡ x → (List·Memᴰ a (valuesOf 12 rs) → a < F)
-        → List·Memᴰ a (cond x (r .value ∷ valuesOf 12 rs) (valuesOf 12 rs)) → a < F
-    go true e ih (List·Memᴰ·head q) = rw q (ltb-true _ _ (start-range F p (r .tag) (r .value) (eqb-true (r .tag) 12 e) range))
-    go true e ih (List·Memᴰ·tail m) = ih m
-    go false e ih m = ih m
+    go : (x : Bool) → (List·Memᴰ a (atomsOf b ls) → List·Memᴰ a (atoms ls)) → List·Memᴰ a (cond x (l .atom ∷ atomsOf b ls) (atomsOf b ls))
+        → List·Memᴰ a (l .atom ∷ atoms ls)
+    go true ih (List·Memᴰ·head e) = List·Memᴰ·head e
+    go true ih (List·Memᴰ·tail m) = List·Memᴰ·tail (ih m)
+    go false ih m = List·Memᴰ·tail (ih m)
 
 -- A state of 256 atoms, with none in it from `F` on.
 pub record Fits (F : ℕ) (s : State) : Type 0 where
@@ -114,18 +70,17 @@ module _ (F : ℕ) where
   fits-assign b (a ∷ atoms) s h f =
       fits-assign b atoms (set s a b) (λ z k m. h z k (List·Memᴰ·tail m)) (fits-set b a s (λ z. h z a (List·Memᴰ·head refl)) f)
 
-  fits-γ : (s : State) (effects : List Literal) → AtomsBelow F effects → Fits F s → Fits F (γ s effects)
+  fits-γ : (s : State) (effects : List Literal) → ConjunctRules F effects → Fits F s → Fits F (γ s effects)
   unfolding γ
   fits-γ s effects h f =
-      fits-assign true _ _ (λ _. atoms-below F true effects h) (fits-assign false _ s (λ z. absurd (false≢true z)) f)
+      fits-assign true _ _ (λ _ a m. rising-top h a (atoms-in true effects a m)) (fits-assign false _ s (λ z. absurd (false≢true z)) f)
 
 -- An order's first state fits its shop, and so does the last of every derivation from one that does.
 start-fits : (shop sheet : List ℕ) → checkOrder shop sheet ≡ passed → Fits (Shop.atomCount shop) (startOf (order sheet))
-unfolding startOf order orderOf
+unfolding startOf
 start-fits shop sheet e =
-    let s = sound shop sheet e in
-    fits-assign (Shop.atomCount shop) true _ emptyState (λ _ a m. rw⁻¹ (s .atoms) (start-below (s .passes .rows) a m))
-    (fits-empty (Shop.atomCount shop))
+    let F = Shop.atomCount shop in
+    fits-assign F true _ emptyState (λ _. rising-top (order-rules shop sheet e .start)) (fits-empty F)
 
 derivation-fits : (shop : List ℕ) → checkShop shop ≡ passed
     → {limit n : ℕ} {P : Problem} {last : State} {xs : List Step} {plan : List ℕ}
@@ -133,7 +88,7 @@ derivation-fits : (shop : List ℕ) → checkShop shop ≡ passed
 derivation-fits shop e base f = f
 derivation-fits shop e (satisfaction h g i) f = derivation-fits shop e i f
 derivation-fits shop e (application {P} {a} h c g k i) f =
-    derivation-fits shop e i (fits-γ (Shop.atomCount shop) (P .state) (a .effects) (effects-below shop e a (at-mem c)) f)
+    derivation-fits shop e i (fits-γ (Shop.atomCount shop) (P .state) (a .effects) (shop-rules shop e .actions a (at-mem c) .effects) f)
 derivation-fits shop e (decomposition h c g k i) f = derivation-fits shop e i f
 
 pub last-fits : (shop sheet : List ℕ) → checkOrder shop sheet ≡ passed
@@ -208,14 +163,31 @@ pub record From (shop sheet : List ℕ) (s : State) : Type 0 where
 -- It is there for a state that fits, where the sheet has 256 rows to spare.
 pub from-state : (shop sheet : List ℕ) → checkOrder shop sheet ≡ passed → mostAtoms + Sheet.rowCount sheet ≤ mostRows
     → (s : State) → Fits (Shop.atomCount shop) s → From shop sheet s
-unfolding startOf
+unfolding startOf orderRows
 from-state shop sheet e few s f =
-    let l = later shop sheet (atomsFrom 0 s) e
-    (atoms-rise (Shop.atomCount shop) 0 s (λ p q. let k = f .within p q in omega arith))
-    (omega (arith, atoms-short 0 s, f .whole)) in
+    let F = Shop.atomCount shop in
+    let o : Order = record { start = atomsFrom 0 s; goals = order sheet .goals } in
+    let rules = order-rules shop sheet e in
+    let gs = flatMap nodeRows (order sheet .goals) in
     record {
-      words = l .words;
-      passes = l .passes;
-      goals = l .goals;
-      start = ap (λ (atoms : List ℕ). assign true atoms emptyState) (l .start) ∙ atoms-back s (f .whole);
+      words = orderWords F o;
+      passes =
+          words-pass-order shop o (shop-of-order shop sheet e)
+          record {
+            few-goals = rules .few-goals;
+            few-rows =
+                omega (
+                  arith,
+                  length-append (map (row 12) (atomsFrom 0 s)) gs,
+                  length-map (atomsFrom 0 s) (row 12),
+                  atoms-short 0 s,
+                  f .whole,
+                  length-append (map (row 12) (order sheet .start)) gs,
+                  order-length shop sheet e,
+                );
+            start = rising 0 _ (atoms-rise F 0 s (λ p q. let k = f .within p q in omega arith));
+            goals = rules .goals;
+          };
+      goals = ap (λ (o : Order). o .goals) (words-order F o);
+      start = ap (λ (o : Order). assign true (o .start) emptyState) (words-order F o) ∙ atoms-back s (f .whole);
     }

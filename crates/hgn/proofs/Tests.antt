@@ -41,6 +41,10 @@ pub true-or-right : (a b : Bool) → b ≡ true → (a || b) ≡ true
 true-or-right true b p = refl
 true-or-right false b p = p
 
+pub or-false : (a b : Bool) → (a || b) ≡ false → (a ≡ false) × (b ≡ false)
+or-false true b e = absurd (true≢false e)
+or-false false b e = (refl, e)
+
 pub false-or : (a b : Bool) → a ≡ false → b ≡ false → (a || b) ≡ false
 false-or true b p q = p
 false-or false b p q = q

@@ -17,6 +17,8 @@ pub mod Order
 pub mod Trace
 pub mod Replay
 pub mod Search
+-- "The three sheets" once more, of the meaning: the sheets written out, and their rules as propositions.
+pub mod Written
 -- Source document 000, and the statements that are proved.
 pub mod Definition1
 pub mod Readings

@@ -22,6 +22,7 @@ use Rattle.hgn.specs.Order.{order, checkOrder}
 use Rattle.hgn.specs.Trace.{sizeWords, stepCount, mostSteps, stepsOf, checkTrace}
 use Rattle.hgn.specs.Replay.{replay}
 use Rattle.hgn.specs.Search.{mostDepth, isFound, searched, search}
+use Rattle.hgn.specs.Written.{SheetsAreWritten}
 use Rattle.hgn.specs.Definition1.{Derivation, Listed, Precedes, Unconstrained}
 
 -- Accepted is derived. Whatever the rules, if their tests decide their propositions, and whatever the first problem, accepted steps are a
@@ -196,6 +197,7 @@ pub record CostsAreBounded : Type 0 where
 
 -- All of it.
 pub record Read : Type 1 where
+  pub sheets-are-written : SheetsAreWritten
   pub accepted-is-derivation : AcceptedIsDerivation
   pub questions-in-order : QuestionsInOrder
   pub first-before-second : FirstBeforeSecond

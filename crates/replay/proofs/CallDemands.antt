@@ -16,12 +16,13 @@ use Rattle.hgn.specs.Network as Network
 use Rattle.hgn.specs.Network.{Waiting, enter, goalsOf, mostWaiting}
 use Rattle.hgn.specs.Run.{Step, Outcome, accepted, run, startOf}
 use Rattle.hgn.specs.Join.{raised, join}
-use Rattle.hgn.specs.Verdict.{passed, andThen}
+use Rattle.hgn.specs.Verdict.{passed}
 use Rattle.hgn.specs.Shop.{domain}
 use Rattle.hgn.specs.Order.{order, rowCount, checkOrder}
 use Rattle.hgn.specs.Trace.{stepCount, stepsOf, traceQuestions, checkTrace}
 use Rattle.hgn.specs.Replay.{Replayed, refusal, replay}
 use Rattle.hgn.specs.Demands.{Accepts, Refuses, OnJoin, JoinRule}
+use Rattle.hgn.proofs.Passed.{TracePassed, trace-asked, passed-trace}
 use Rattle.hgn.proofs.Checked.{order-of-trace, shop-of-order, shop-actions, order-goals}
 use Rattle.hgn.proofs.Steps.{taken-state, taken-list}
 use Rattle.hgn.proofs.Waiting.{length-enter}
@@ -224,7 +225,7 @@ module _ (shop first second trace : List ℕ)
       let k = accepting-runs (p .back) (b .back) in
       let a = run-accepts (p .front) (f .0) (f .1) (f .2) in
       record {
-        inside = rw (steps-length trace steps) (p .inside);
+        inside = rw (steps-length trace (trace-asked trace steps)) (p .inside);
         frontPlan = f .0;
         between = f .1;
         front = record {
@@ -298,7 +299,7 @@ module _ (shop first second trace : List ℕ)
     accepted-iff = λ k parts. (
       (λ e.
           let r = accepted-cut k .0 e in
-          let h : r .0 ≤ stepCount trace = rw⁻¹ (steps-length trace steps) (r .1 .inside) in
+          let h : r .0 ≤ stepCount trace = rw⁻¹ (steps-length trace (trace-asked trace steps)) (r .1 .inside) in
           (r .0, h, both-accept (parts (r .0) h) (r .1))),
       (λ b. accepted-cut k .1 (b .0, parts-cut (parts (b .0) (b .1)) (b .2))),
     );
@@ -316,15 +317,14 @@ pub demand-3 : Demand3OfCalls
 demand-3 = join-of-calls
 
 -- A call on sheets that pass, with as much room as the trace has steps.
-call-of : (shop sheet trace : List ℕ) → checkOrder shop sheet ≡ passed → traceQuestions trace ≡ passed → Call shop sheet trace
-unfolding checkTrace andThen
+call-of : (shop sheet trace : List ℕ) → checkOrder shop sheet ≡ passed → TracePassed trace → Call shop sheet trace
 call-of shop sheet trace h t =
     let room : List ℕ = replicate (stepCount trace) 0 in
     record {
       room = room;
       answer = answerOf (replay shop sheet trace room .answer);
       exit = replay shop sheet trace room .room;
-      inputs = (rw h t, omega (arith, length-replicate {A = ℕ} (stepCount trace) 0));
+      inputs = (passed-trace shop sheet trace h t, omega (arith, length-replicate {A = ℕ} (stepCount trace) 0));
       called = record { answers = refl; leaves = refl };
     }
 
@@ -351,26 +351,26 @@ parts-are-there : (shop first second trace : List ℕ)
     → checkOrder shop first ≡ passed → checkOrder shop second ≡ passed → traceQuestions trace ≡ passed
     → mostAtoms + rowCount second ≤ mostRows → (c : ℕ) → c ≤ stepCount trace → Parts shop first second trace c
 parts-are-there shop first second trace one two steps few c h =
-    let front = call-of shop first (frontOf c trace) one (front-passes trace steps c) in
+    let front = call-of shop first (frontOf c trace) one (front-passes trace (trace-asked trace steps) c) in
     let next = onwards shop first second (frontOf c trace) front one two few in
     record {
       inside = h;
       frontTrace = frontOf c trace;
-      frontSteps = front-steps trace steps c;
+      frontSteps = front-steps trace (trace-asked trace steps) c;
       front = front;
       backOrder = next .words;
       backGoals = next .goals;
       backStart = next .start;
       backTrace = backOf c trace;
-      backSteps = back-steps trace steps c;
-      back = call-of shop (next .words) (backOf c trace) (next .passes) (back-passes trace steps c);
+      backSteps = back-steps trace (trace-asked trace steps) c;
+      back = call-of shop (next .words) (backOf c trace) (next .passes) (back-passes trace (trace-asked trace steps) c);
     }
 
 pub calls-of-demand-3 : CallsOfDemand3
 calls-of-demand-3 shop first second trace one two steps = record {
   whole = λ goals few.
       let j = joined shop first second one two goals few in
-      record { joined = j .words; means = j .means; call = call-of shop (j .words) trace (j .passes) steps };
+      record { joined = j .words; means = j .means; call = call-of shop (j .words) trace (j .passes) (trace-asked trace steps) };
   parts = parts-are-there shop first second trace one two steps;
 }
 
