@@ -11,8 +11,8 @@ use lib.ListN.{length, getD, set}
 use Rattle.hgn.specs.Lists.{all, At}
 use Rattle.hgn.specs.Meaning.{Literal, Formula, Node, Domain, lastAfterAll, networkOf}
 use Rattle.hgn.specs.State.{State, assign, literalHolds, allHold, formulaHolds, atomsOf, γ, contains}
-use Rattle.hgn.specs.Network.{Origin, Name, Waiting, step, enter, goalAt, noGoal, decomposed, mostWaiting}
-use Rattle.hgn.specs.Run.{Step, Move, act, use-method, moveOf, actionAt, methodAt, taken, stepped, run}
+use Rattle.hgn.specs.Network.{Origin, Name, Waiting, step, enter, goalAt, noGoal, decomposed}
+use Rattle.hgn.specs.Run.{Step, Move, act, use-method, moveOf, actionAt, methodAt, Problem, Rules, Deed, taken, stepped, runBy}
 use Rattle.hgn.proofs.Tests.{beq-true, false-not-true, any-true, all-true, contains-iff, at-of-lt}
 use Rattle.hgn.proofs.Steps.{Moved, by-release, by-action, by-method, took}
 use Rattle.hgn.proofs.Moves.{Reads, as-action, reads}
@@ -101,90 +101,92 @@ module _ (d : Domain) where
   makes-cases {x} {xs} {m} h =
       ⊎-elim (λ p. inl (ap (λ (y : Step). moveOf d (y .move)) (sym p) ∙ h .2)) (λ k. inr (h .0, k, h .2)) (List·Memᴰ·cases-cons (h .1))
 
+module _ (r : Rules) where
   -- The literal holds at some moment of the run.
-  pub data Comes (l : Literal) : ℕ → State → List Waiting → List Step → Type 0 where
-    now : {n : ℕ} {s : State} {w : List Waiting} {xs : List Step} → literalHolds s l ≡ true → Comes l n s w xs
-    later : {n : ℕ} {s s′ : State} {w w′ : List Waiting} {x : Step} {xs : List Step} {done : List ℕ}
-        → stepped mostWaiting d n s w x ≡ taken done s′ w′ → Comes l (suc n) s′ w′ xs → Comes l n s w (x ∷ xs)
+  pub data Comes (l : Literal) : ℕ → Problem → List Step → Type 0 where
+    now : {n : ℕ} {P : Problem} {xs : List Step} → literalHolds (P .state) l ≡ true → Comes l n P xs
+    later : {n : ℕ} {P P′ : Problem} {x : Step} {xs : List Step} {deed : Deed}
+        → stepped r n P x ≡ taken deed P′ → Comes l (suc n) P′ xs → Comes l n P (x ∷ xs)
 
   -- Where it does not hold at first, an action before that moment made it.
-  pub comes-made : {l : Literal} {k : ℕ} → OnlyMaker d l k → {n : ℕ} {s : State} {w : List Waiting} {xs : List Step} → literalHolds s l ≡ false
-      → Comes l n s w xs → Makes d xs (act k)
+  pub comes-made : {l : Literal} {k : ℕ} → OnlyMaker (r .domain) l k → {n : ℕ} {P : Problem} {xs : List Step} → literalHolds (P .state) l ≡ false
+      → Comes l n P xs → Makes (r .domain) xs (act k)
   comes-made o f (now e) = absurd (false-not-true _ f e)
-  comes-made {l} {k} o {n} {s} {w} f (later {x = x} {xs = xs} {done = done} e c) =
-      go refl (took x done _ _ e .by) (λ g. makes-later (comes-made o g c))
+  comes-made {l} {k} o {n} {P} f (later {x = x} {xs = xs} {deed = deed} e c) =
+      go refl (took x deed _ e .by) (λ g. makes-later (r .domain) (comes-made o g c))
     where
-      go : {m : Move} {done : List ℕ} {s′ : State} {w′ : List Waiting} → moveOf d (x .move) ≡ m → Moved mostWaiting d n s w (x .place) m done s′ w′
-          → (literalHolds s′ l ≡ false → Makes d (x ∷ xs) (act k)) → Makes d (x ∷ xs) (act k)
+      go : {m : Move} {deed : Deed} {P′ : Problem} → moveOf (r .domain) (x .move) ≡ m → Moved r n P (x .place) m deed P′
+          → (literalHolds (P′ .state) l ≡ false → Makes (r .domain) (x ∷ xs) (act k)) → Makes (r .domain) (x ∷ xs) (act k)
       go q (by-release a) ih = ih f
       go q (by-method a b c) ih = ih f
-      go q (by-action {k = j} a b) ih = decide (literalHolds (γ s (actionAt d j .effects)) l) refl
+      go q (by-action {k = j} a b) ih = decide (literalHolds (γ (P .state) (actionAt (r .domain) j .effects)) l) refl
         where
-          decide : (y : Bool) → literalHolds (γ s (actionAt d j .effects)) l ≡ y → Makes d (x ∷ xs) (act k)
+          decide : (y : Bool) → literalHolds (γ (P .state) (actionAt (r .domain) j .effects)) l ≡ y → Makes (r .domain) (x ∷ xs) (act k)
           decide false g = ih g
           decide true g =
-              let r = action-known (x .move) j q in
-              (x, List·Memᴰ·head refl, q ∙ ap act (o j (r .0) (r .1) (made s (actionAt d j .effects) l f g)))
+              let i = action-known (r .domain) (x .move) j q in
+              (x, List·Memᴰ·head refl, q ∙ ap act (o j (i .0) (i .1) (made (P .state) (actionAt (r .domain) j .effects) l f g)))
 
   -- A goal that waits is released, and holds then.
-  pub goal-comes : {l : Literal} {g : Waiting} → InEvery l (g .formula) → (n : ℕ) (s : State) (w : List Waiting) (xs : List Step) → Runs d n s w xs
-      → List·Memᴰ g w → Comes l n s w xs
-  unfolding run decomposed
-  goal-comes {l} {g} v n s w [] r m =
-      absurd (List·Memᴰ·not-nil (subst (List·Memᴰ g) (ended-empty n s w (r .0) (r .1) (r .2) .0) m))
-  goal-comes {l} {g} v n s w (x ∷ xs) r m =
-      let f = runs-head d n s w x xs r in
-      let t = took x (f .0) (f .1) (f .2) (f .3) in
-      go (at-of-lt w (x .place) noGoal (t .inside)) (t .by) (λ k. later (f .3) (goal-comes v (suc n) (f .1) (f .2) xs (f .4) k))
+  pub goal-comes : {l : Literal} {g : Waiting} → InEvery l (g .formula) → (n : ℕ) (P : Problem) (xs : List Step) → Runs r n P xs
+      → List·Memᴰ g (P .waiting) → Comes l n P xs
+  unfolding runBy decomposed
+  goal-comes {l} {g} v n P [] h m =
+      absurd (List·Memᴰ·not-nil (subst (List·Memᴰ g) (ended-empty n P (h .0) (h .1) (h .2) .0) m))
+  goal-comes {l} {g} v n P (x ∷ xs) h m =
+      let f = runs-head r n P x xs h in
+      let t = took x (f .0) (f .1) (f .2) in
+      go (at-of-lt (P .waiting) (x .place) noGoal (t .inside)) (t .by) (λ k. later (f .2) (goal-comes v (suc n) (f .1) xs (f .3) k))
     where
-      go : {p : ℕ} {m : Move} {done : List ℕ} {s′ : State} {w′ : List Waiting} → At w p (goalAt w p) → Moved mostWaiting d n s w p m done s′ w′
-          → (List·Memᴰ g w′ → Comes l n s w (x ∷ xs)) → Comes l n s w (x ∷ xs)
+      go : {p : ℕ} {m : Move} {deed : Deed} {P′ : Problem} → At (P .waiting) p (goalAt (P .waiting) p) → Moved r n P p m deed P′
+          → (List·Memᴰ g (P′ .waiting) → Comes l n P (x ∷ xs)) → Comes l n P (x ∷ xs)
       go a (by-release h) ih =
-          ⊎-elim (λ q. now (every-holds s (g .formula) l v (ap (λ (u : Waiting). formulaHolds s (u .formula)) q ∙ h))) ih (stays a m)
+          ⊎-elim (λ q. now (every-holds (P .state) (g .formula) l v (ap (λ (u : Waiting). formulaHolds (P .state) (u .formula)) q ∙ h))) ih (stays a m)
       go a (by-action h b) ih = ih m
       go {p} a (by-method {m = j} h b c) ih =
-          ih (inserted-old (enter (step n) (some (goalAt w p .name)) 0 (networkOf (methodAt d j))) a m)
+          ih (inserted-old (enter (step n) (some (goalAt (P .waiting) p .name)) 0 (networkOf (methodAt (r .domain) j))) a m)
+
+  -- The literal comes in every accepted run that begins with the move.
+  abbrev pub ComesBy : Literal → Move → Type 0
+  ComesBy l m = (n : ℕ) (P : Problem) (x : Step) (xs : List Step) → moveOf (r .domain) (x .move) ≡ m → Runs r n P (x ∷ xs) → Comes l n P (x ∷ xs)
 
   -- What comes at the step that makes a move comes in the run.
-  module _ {l : Literal} {m : Move}
-      (h : (n : ℕ) (s : State) (w : List Waiting) (x : Step) (xs : List Step) → moveOf d (x .move) ≡ m → Runs d n s w (x ∷ xs) → Comes l n s w (x ∷ xs)) where
-    pub move-comes : (n : ℕ) (s : State) (w : List Waiting) (xs : List Step) → Runs d n s w xs → Makes d xs m → Comes l n s w xs
-    move-comes n s w [] r k = absurd (List·Memᴰ·not-nil (k .1))
-    move-comes n s w (x ∷ xs) r k =
-        let f = runs-head d n s w x xs r in
-        ⊎-elim (λ e. h n s w x xs e r) (λ j. later (f .3) (move-comes (suc n) (f .1) (f .2) xs (f .4) j)) (makes-cases k)
+  pub move-comes : {l : Literal} {m : Move} → ComesBy l m → (n : ℕ) (P : Problem) (xs : List Step) → Runs r n P xs → Makes (r .domain) xs m
+      → Comes l n P xs
+  move-comes h n P [] e k = absurd (List·Memᴰ·not-nil (k .1))
+  move-comes h n P (x ∷ xs) e k =
+      let f = runs-head r n P x xs e in
+      ⊎-elim (λ q. h n P x xs q e) (λ j. later (f .2) (move-comes h (suc n) (f .1) xs (f .3) j)) (makes-cases (r .domain) k)
 
   -- The needs of a move hold where it is made.
-  needs-hold : {n p : ℕ} {s s′ : State} {w w′ : List Waiting} {m : Move} {done : List ℕ} → Moved mostWaiting d n s w p m done s′ w′
-      → allHold s (needsOf d m) ≡ true
+  needs-hold : {n p : ℕ} {P P′ : Problem} {m : Move} {deed : Deed} → Moved r n P p m deed P′ → allHold (P .state) (needsOf (r .domain) m) ≡ true
   unfolding allHold all
   needs-hold (by-release a) = refl
   needs-hold (by-action a b) = a
   needs-hold (by-method a b c) = a
 
-  pub need-comes : {l : Literal} {m : Move} → contains (needsOf d m) l ≡ true → (n : ℕ) (s : State) (w : List Waiting) (x : Step) (xs : List Step)
-      → moveOf d (x .move) ≡ m → Runs d n s w (x ∷ xs) → Comes l n s w (x ∷ xs)
+  pub need-comes : {l : Literal} {m : Move} → contains (needsOf (r .domain) m) l ≡ true → ComesBy l m
   unfolding allHold
-  need-comes {l} {m} c n s w x xs e r =
-      let f = runs-head d n s w x xs r in
-      let hold = needs-hold (took x (f .0) (f .1) (f .2) (f .3) .by) in
-      now (all-true (literalHolds s) (needsOf d m) (subst (λ (k : Move). allHold s (needsOf d k) ≡ true) e hold) (contains-iff (needsOf d m) l .0 c))
+  need-comes {l} {m} c n P x xs e h =
+      let f = runs-head r n P x xs h in
+      let hold = needs-hold (took x (f .0) (f .1) (f .2) .by) in
+      now (all-true (literalHolds (P .state)) (needsOf (r .domain) m)
+      (subst (λ (k : Move). allHold (P .state) (needsOf (r .domain) k) ≡ true) e hold) (contains-iff (needsOf (r .domain) m) l .0 c))
 
   -- A node of a method waits once the method is used.
-  node-waits : {j : ℕ} {v : Node} → List·Memᴰ v (methodAt d j .nodes) → {n p : ℕ} {s s′ : State} {w w′ : List Waiting} {done : List ℕ}
-      → Moved mostWaiting d n s w p (use-method j) done s′ w′ → (g : Waiting) × List·Memᴰ g w′ × (g .formula ≡ v .formula)
+  node-waits : {j : ℕ} {v : Node} → List·Memᴰ v (methodAt (r .domain) j .nodes) → {n p : ℕ} {P P′ : Problem} {deed : Deed}
+      → Moved r n P p (use-method j) deed P′ → (g : Waiting) × List·Memᴰ g (P′ .waiting) × (g .formula ≡ v .formula)
   unfolding decomposed networkOf
-  node-waits {j} {v} m {n} {p} {w = w} (by-method a b c) =
-      let parent = some (goalAt w p .name) in
-      let r = Memᴰ·of-map (λ (g : Waiting). g .formula) (enter (step n) parent 0 (lastAfterAll 0 (methodAt d j .nodes)))
-      (subst (List·Memᴰ (v .formula)) (sym (enter-formulas (step n) parent 0 0 (methodAt d j .nodes))) (Memᴰ·map (λ (k : Node). k .formula) m)) in
-      (r .0, inserted-new w p (r .1), r .2)
+  node-waits {j} {v} m {n} {p} {P} (by-method a b c) =
+      let parent = some (goalAt (P .waiting) p .name) in
+      let nodes = methodAt (r .domain) j .nodes in
+      let e = Memᴰ·of-map (λ (g : Waiting). g .formula) (enter (step n) parent 0 (lastAfterAll 0 nodes))
+      (subst (List·Memᴰ (v .formula)) (sym (enter-formulas (step n) parent 0 0 nodes)) (Memᴰ·map (λ (k : Node). k .formula) m)) in
+      (e .0, inserted-new (P .waiting) p (e .1), e .2)
 
-  pub node-comes : {l : Literal} {j : ℕ} {v : Node} → List·Memᴰ v (methodAt d j .nodes) → InEvery l (v .formula)
-      → (n : ℕ) (s : State) (w : List Waiting) (x : Step) (xs : List Step) → moveOf d (x .move) ≡ use-method j → Runs d n s w (x ∷ xs)
-      → Comes l n s w (x ∷ xs)
-  node-comes {l} {j} {v} m h n s w x xs e r =
-      let f = runs-head d n s w x xs r in
-      let by = took x (f .0) (f .1) (f .2) (f .3) .by in
-      let g = node-waits m (subst (λ (k : Move). Moved mostWaiting d n s w (x .place) k (f .0) (f .1) (f .2)) e by) in
-      later (f .3) (goal-comes (subst (InEvery l) (sym (g .2)) h) (suc n) (f .1) (f .2) xs (f .4) (g .1))
+  pub node-comes : {l : Literal} {j : ℕ} {v : Node} → List·Memᴰ v (methodAt (r .domain) j .nodes) → InEvery l (v .formula) → ComesBy l (use-method j)
+  node-comes {l} {j} {v} m i n P x xs e h =
+      let f = runs-head r n P x xs h in
+      let by = took x (f .0) (f .1) (f .2) .by in
+      let g = node-waits m (subst (λ (k : Move). Moved r n P (x .place) k (f .0) (f .1)) e by) in
+      later (f .2) (goal-comes (subst (InEvery l) (sym (g .2)) i) (suc n) (f .1) xs (f .3) (g .1))

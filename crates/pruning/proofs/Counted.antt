@@ -10,8 +10,8 @@ use lib.ListN.{length, take, drop, length-append, length-take, length-drop}
 use lib.Seq.{split-at}
 use Rattle.hgn.specs.Meaning.{Domain, networkOf}
 use Rattle.hgn.specs.State.{State}
-use Rattle.hgn.specs.Network.{Waiting, goalAt, noGoal, mostWaiting}
-use Rattle.hgn.specs.Run.{Step, Move, release, act, use-method, unknown, moveOf, run, accepted}
+use Rattle.hgn.specs.Network.{Waiting, goalAt, noGoal}
+use Rattle.hgn.specs.Run.{Step, Move, release, act, use-method, unknown, moveOf, Problem, Rules, Deed, stepped, accepted, runBy, run}
 use Rattle.hgn.proofs.Checked.{length-lastAfterAll}
 use Rattle.hgn.proofs.Steps.{Moved, took}
 use Rattle.hgn.proofs.Waiting.{length-enter}
@@ -20,34 +20,34 @@ use Rattle.hgn.proofs.Pruning.{kept-sound}
 use Rattle.pruning.specs.Rules.{leftOut}
 use Rattle.pruning.specs.Pruned.{prunedOf}
 use Rattle.pruning.specs.Needed.{Needed, weight, weights, Different}
-use Rattle.pruning.proofs.Places.{suits, into, did}
+use Rattle.pruning.proofs.Places.{suits, into, problem, did}
 use Rattle.pruning.proofs.Pruned.{pruned-is-kept}
 
 -- As many goals stand in a goal's place after a move as the move weighs.
-length-into : (d : Domain) (n : ℕ) (g : Waiting) (m : Move) → suits d g m ≡ true → length (into d n g m) ≡ weight d m
+length-into : (r : Rules) (n : ℕ) (g : Waiting) (m : Move) → suits r g m ≡ true → length (into (r .domain) n g m) ≡ weight (r .domain) m
 unfolding suits into weight networkOf
-length-into d n g release e = refl
-length-into d n g (act k) e = refl
-length-into d n g (use-method m) e = simp (length-append, length-enter, length-lastAfterAll) (omega arith)
-length-into d n g unknown e = absurd (false≢true e)
+length-into r n g release e = refl
+length-into r n g (act k) e = refl
+length-into r n g (use-method m) e = simp (length-append, length-enter, length-lastAfterAll) (omega arith)
+length-into r n g unknown e = absurd (false≢true e)
 
 -- A step takes its goal off and puts those in.
-weighs : {d : Domain} {n p : ℕ} {s s′ : State} {w w′ : List Waiting} {m : Move} {done : List ℕ} → p < length w
-    → Moved mostWaiting d n s w p m done s′ w′ → suc (length w′) ≡ length w + weight d m
-weighs {d} {n} {p} {w = w} {m = m} h b =
+weighs : {r : Rules} {n p : ℕ} {P P′ : Problem} {m : Move} {deed : Deed} → p < length (P .waiting)
+    → Moved r n P p m deed P′ → suc (length (P′ .waiting)) ≡ length (P .waiting) + weight (r .domain) m
+weighs {r} {n} {p} {P} {P′} {m} h b =
+    let w = P .waiting in
     let up-to : p ≡ length (take p w) = omega (arith, length-take p w) in
-    let r = did (take p w) (goalAt w p) (drop (suc p) w) (split-at w p noGoal h) up-to b in
-    rw (r .list, length-append, length-append, length-into d n (goalAt w p) m (r .suited), length-drop)
-    (omega (arith, up-to))
+    let f = did (take p w) (goalAt w p) (drop (suc p) w) (ap (problem (P .state)) (split-at w p noGoal h)) up-to b in
+    rw (f .leaves, length-append, length-append, length-into r n (goalAt w p) m (f .suited), length-drop) (omega (arith, up-to))
 
-pub steps-counted : (d : Domain) (n : ℕ) (s : State) (w : List Waiting) (xs : List Step) (plan : List ℕ) (last : State)
-    → run mostWaiting d n s w xs ≡ accepted plan last → length xs ≡ length w + weights d (map (λ x. moveOf d (x .move)) xs)
-unfolding run weights
-steps-counted d n s w [] plan last e = omega (arith, ap {B = ℕ} length (ended-empty n s w plan last e .0))
-steps-counted d n s w (x ∷ xs) plan last e =
-    let r = resumes mostWaiting d n s w x xs plan last e in
-    let t = took x (r .done) (r .next) (r .list) (r .first) in
-    omega (arith, weighs (t .inside) (t .by), steps-counted d (suc n) (r .next) (r .list) xs (r .rest) last (r .goes-on))
+pub steps-counted : (r : Rules) (n : ℕ) (P : Problem) (xs : List Step) (deeds : List Deed) (last : State)
+    → run r n P xs ≡ accepted deeds last → length xs ≡ length (P .waiting) + weights (r .domain) (map (λ x. moveOf (r .domain) (x .move)) xs)
+unfolding runBy weights
+steps-counted r n P [] deeds last e = omega (arith, ap {B = ℕ} length (ended-empty n P deeds last e .0))
+steps-counted r n P (x ∷ xs) deeds last e =
+    let f = resumes (stepped r) n P x xs deeds last e in
+    let t = took x (f .deed) (f .left) (f .first) in
+    omega (arith, weighs (t .inside) (t .by), steps-counted r (suc n) (f .left) xs (f .rest) last (f .goes-on))
 
 module _ (d : Domain) where
   -- A list without one of its members: it weighs that much less, and every other member stays.
@@ -75,21 +75,20 @@ module _ (d : Domain) where
       let rest = weights-at-most ms (r .0) (h .1) (λ x i. r .2 x (c x (List·Memᴰ·tail i)) (h .0 x i)) in
       omega (arith, r .1, rest)
 
-  module _ (s : State) (w : List Waiting) (ms : List Move) (h : Different ms) (c : (m : Move) → List·Memᴰ m ms → Needed d s w m) where
-    pub at-least : (n : ℕ) (xs : List Step) (plan : List ℕ) (last : State) → run mostWaiting d n s w xs ≡ accepted plan last
-        → length w + weights d ms ≤ length xs
-    at-least n xs plan last e = omega (arith, steps-counted d n s w xs plan last e, weights-at-most ms _ h made)
-      where
-        made : (m : Move) → List·Memᴰ m ms → List·Memᴰ m (map (λ x. moveOf d (x .move)) xs)
-        made m i = let r = c m i n xs plan last e in Memᴰ·cast (sym (r .2)) (Memᴰ·map (λ x. moveOf d (x .move)) (r .1))
+module _ (r : Rules) (P : Problem) (ms : List Move) (h : Different ms) (c : (m : Move) → List·Memᴰ m ms → Needed r P m) where
+  pub at-least : (n : ℕ) (xs : List Step) (deeds : List Deed) (last : State) → run r n P xs ≡ accepted deeds last
+      → length (P .waiting) + weights (r .domain) ms ≤ length xs
+  at-least n xs deeds last e = omega (arith, steps-counted r n P xs deeds last e, weights-at-most (r .domain) ms _ h made)
+    where
+      made : (m : Move) → List·Memᴰ m ms → List·Memᴰ m (map (λ x. moveOf (r .domain) (x .move)) xs)
+      made m i = let f = c m i n xs deeds last e in Memᴰ·cast (sym (f .2)) (Memᴰ·map (λ x. moveOf (r .domain) (x .move)) (f .1))
 
-    -- A search of fewer steps finds nothing.
-    pub none-shorter : (k : ℕ) → k < length w + weights d ms → (s₀ : State) (w₀ : List Waiting) (y : Step) (n : ℕ)
-        → prunedOf k d s₀ w₀ y n s w ≡ none
-    none-shorter k l s₀ w₀ y n = go (prunedOf k d s₀ w₀ y n s w) refl
-      where
-        go : (o : Option (List Step)) → prunedOf k d s₀ w₀ y n s w ≡ o → o ≡ none
-        go none e = refl
-        go (some xs) e =
-            let r = kept-sound leftOut d k s₀ w₀ y n s w xs (sym (pruned-is-kept k d s₀ w₀ y n s w) ∙ e) in
-            absurd (omega (arith, at-least n xs (r .0 .0) (r .0 .1) (r .0 .2), r .1))
+  -- A search of fewer steps finds nothing.
+  pub none-shorter : (k : ℕ) → k < length (P .waiting) + weights (r .domain) ms → (P₀ : Problem) (y : Step) (n : ℕ) → prunedOf k r P₀ y n P ≡ none
+  none-shorter k l P₀ y n = go (prunedOf k r P₀ y n P) refl
+    where
+      go : (o : Option (List Step)) → prunedOf k r P₀ y n P ≡ o → o ≡ none
+      go none e = refl
+      go (some xs) e =
+          let f = kept-sound (leftOut r) r k P₀ y n P xs (sym (pruned-is-kept k r P₀ y n P) ∙ e) in
+          absurd (omega (arith, at-least n xs (f .0 .0) (f .0 .1) (f .0 .2), f .1))

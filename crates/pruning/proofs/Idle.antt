@@ -2,23 +2,22 @@
 use Prim.Native.Nat.{ℕ, zero, suc, _≤_, _<_}
 use native.Mathlib.Nat.{lt-irrefl}
 use native.Mathlib.Omega.{arith}
-use mathlib.Core.Path.{_≡_, refl, sym, ap, ap₂, _∙_}
+use mathlib.Core.Path.{_≡_, refl, sym, ap, ap₂, _∙_, subst}
 use mathlib.Core.Bool.{Bool, true, false, cond, Bool·beq, false≢true}
 use mathlib.Core.List.{List, [], _∷_}
 use lib.Dec.{ltb}
 use lib.ListN.{length, getD, set}
 use borrow.Author.Tests.{ltb-true, ltb-false, lt-ltb, le-ltb}
 use Rattle.hgn.specs.Lists.{all}
-use Rattle.hgn.specs.Meaning.{Literal, Domain}
+use Rattle.hgn.specs.Meaning.{Literal}
 use Rattle.hgn.specs.State.{State, assign, literalHolds, allHold, atomsOf, γ}
-use Rattle.hgn.specs.Network.{Waiting, mostWaiting}
-use Rattle.hgn.specs.Run.{Step, Move, moveOf, accepted, run}
+use Rattle.hgn.specs.Network.{Waiting}
+use Rattle.hgn.specs.Run.{Step, Move, moveOf, Problem, Rules, Deed, accepted, run}
 use Rattle.hgn.proofs.Tests.{and-true, beq-true, not-true-false}
 use Rattle.hgn.proofs.Steps.{Moved, by-release, by-action, by-method, took}
-use Rattle.hgn.proofs.Runs.{Resumes, resumes}
 use Rattle.hgn.proofs.Names.{Named}
-use Rattle.hgn.proofs.Renaming.{Injective, later-accepted, run-renamed, list-kept}
-use Rattle.hgn.proofs.Best.{Best}
+use Rattle.hgn.proofs.Renaming.{Injective, rename, later, later-accepted, run-renamed, list-kept}
+use Rattle.hgn.proofs.Best.{Runs, Best, runs-head}
 use Rattle.pruning.specs.Rules.{idle}
 
 -- Setting an atom to the value it has changes nothing; an atom outside the state reads as false and can't be set.
@@ -68,30 +67,26 @@ module _ (n : ℕ) where
       go false h false k = omega (arith, sym (up-from a (ltb-false a n h)) ∙ e ∙ up-from b (ltb-false b n k))
 
 -- What is accepted from step `n` + 1 is accepted from step `n`: step numbers are only names.
-pub one-lower : (limit : ℕ) (d : Domain) (n : ℕ) (s : State) (w : List Waiting) (xs : List Step) (plan : List ℕ) (last : State) → Named n w
-    → run limit d (suc n) s w xs ≡ accepted plan last → run limit d n s w xs ≡ accepted plan last
-one-lower limit d n s w xs plan last h e =
-    later-accepted (up n) _ plan last
-    (sym (run-renamed 0 (up n) (up-injective n) limit d xs n (λ k l. up-from n (suc k) (omega arith) ∙ ap suc (sym (up-from n k l))) s w)
-    ∙ ap₂ (λ (k : ℕ) (l : List Waiting). run limit d k s l xs) (up-from n n (omega arith)) (list-kept (up n) n (up-below n) w (h .fresh))
-    ∙ e)
+pub one-lower : (r : Rules) (n : ℕ) (P : Problem) (xs : List Step) → Named n (P .waiting) → Runs r (suc n) P xs → Runs r n P xs
+one-lower r n P xs h e = let own = later-accepted (rename 0 (up n)) (up n) _ (e .0) (e .1) renamed in (own .0, e .1, own .1)
+  where
+    renamed : later (rename 0 (up n)) (up n) (run r n P xs) ≡ accepted (e .0) (e .1)
+    renamed =
+        sym (run-renamed 0 (up n) (up-injective n) r xs n (λ k l. up-from n (suc k) (omega arith) ∙ ap suc (sym (up-from n k l))) P)
+        ∙ ap₂ (λ (k : ℕ) (l : List Waiting). run r k (record { state = P .state; waiting = l }) xs)
+        (up-from n n (omega arith)) (list-kept (up n) n (up-below n) (P .waiting) (h .fresh))
+        ∙ e .2
 
-idle-stays : {limit n p : ℕ} {d : Domain} {s s′ : State} {w w′ : List Waiting} {done : List ℕ} {m : Move}
-    → Moved limit d n s w p m done s′ w′ → idle d s m ≡ true → (s′ ≡ s) × (w′ ≡ w)
+idle-stays : {r : Rules} {n p : ℕ} {P P′ : Problem} {deed : Deed} {m : Move}
+    → Moved r n P p m deed P′ → idle (r .domain) (P .state) m ≡ true → P′ ≡ P
 unfolding idle
 idle-stays (by-release a) e = absurd (false≢true e)
-idle-stays {s = s} (by-action a b) e = (effects-hold s _ e, refl)
+idle-stays {P = P} (by-action a b) e = ap {B = Problem} (λ s. record { state = s; waiting = P .waiting }) (effects-hold (P .state) _ e)
 idle-stays (by-method a b c) e = absurd (false≢true e)
 
-pub idle-best : (d : Domain) (n : ℕ) (s : State) (w : List Waiting) (x : Step) (xs : List Step) → Named n w → Best d n s w (x ∷ xs)
-    → idle d s (moveOf d (x .move)) ≡ false
-idle-best d n s w x xs h b = not-true-false _ (λ e. lt-irrefl (length xs) (b .shortest xs (r .rest, b .runs .1, without e)))
-  where
-    r : Resumes mostWaiting d n s w x xs (b .runs .0) (b .runs .1)
-    r = resumes mostWaiting d n s w x xs (b .runs .0) (b .runs .1) (b .runs .2)
-
-    without : idle d s (moveOf d (x .move)) ≡ true → run mostWaiting d n s w xs ≡ accepted (r .rest) (b .runs .1)
-    without e =
-        let k = idle-stays (took x (r .done) (r .next) (r .list) (r .first) .by) e in
-        one-lower mostWaiting d n s w xs (r .rest) (b .runs .1) h
-        (ap₂ (λ (t : State) (l : List Waiting). run mostWaiting d (suc n) t l xs) (sym (k .0)) (sym (k .1)) ∙ r .goes-on)
+pub idle-best : (r : Rules) (n : ℕ) (P : Problem) (x : Step) (xs : List Step) → Named n (P .waiting) → Best r n P (x ∷ xs)
+    → idle (r .domain) (P .state) (moveOf (r .domain) (x .move)) ≡ false
+idle-best r n P x xs h b = not-true-false _ λ e.
+    let f = runs-head r n P x xs (b .runs) in
+    let stays = idle-stays (took x (f .0) (f .1) (f .2) .by) e in
+    lt-irrefl (length xs) (b .shortest xs (one-lower r n P xs h (subst (λ (Q : Problem). Runs r (suc n) Q xs) stays (f .3))))

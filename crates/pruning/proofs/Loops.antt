@@ -12,9 +12,8 @@ use lib.Seq.{drop-cons, getD-append-add}
 use borrow.Author.Tests.{leb-true, leb-false}
 use Rattle.hgn.specs.Lists.{from, firstSome}
 use Rattle.hgn.specs.Meaning.{Domain}
-use Rattle.hgn.specs.State.{State}
-use Rattle.hgn.specs.Network.{Waiting, free, goalAt, mostWaiting}
-use Rattle.hgn.specs.Run.{Step, firstMethod, Stepped, refused, taken, stepped}
+use Rattle.hgn.specs.Network.{Waiting, free, goalAt}
+use Rattle.hgn.specs.Run.{Step, firstMethod, Problem, Rules, Stepped, refused, taken, stepped}
 use Rattle.hgn.specs.Trace.{step}
 use Rattle.hgn.specs.Search.{movesOf, stepsAt, candidates}
 use Rattle.hgn.proofs.Tests.{false-not-true}
@@ -130,23 +129,21 @@ module _ (f : Step → Option (List Step)) (d : Domain) where
       go (m ∷ ms) = first-cons f (step m p) (map (λ m. step m p) ms) ∙ rw (h m) (go ms)
 
 -- What the search does at a step, `next` being the search behind it.
-module _ (left : ℕ) (d : Domain) (s₀ : State) (w₀ : List Waiting) (y : Step) (n : ℕ) (s : State) (w : List Waiting)
-    (next : Step → State → List Waiting → Option (List Step)) where
+module _ (r : Rules) (left : ℕ) (P₀ : Problem) (y : Step) (n : ℕ) (P : Problem) (next : Step → Problem → Option (List Step)) where
   abbrev pub tried : Step → Option (List Step)
-  tried x = behind left d s₀ w₀ y s w (next x) x (stepped mostWaiting d n s w x)
+  tried x = behind r left P₀ y P (next x) x (stepped r n P x)
 
   -- Where the goal of the place is not free every move is refused.
-  pub not-free-none : (p i : ℕ) → free w (goalAt w p) ≡ false → movesFrom tried d p i ≡ none
+  pub not-free-none : (p i : ℕ) → free (P .waiting) (goalAt (P .waiting) p) ≡ false → movesFrom tried (r .domain) p i ≡ none
   unfolding behind
-  not-free-none p i e = moves-none tried d p i λ m. go m (stepped mostWaiting d n s w (step m p)) refl
+  not-free-none p i e = moves-none tried (r .domain) p i λ m. go m (stepped r n P (step m p)) refl
     where
-      go : (m : ℕ) (r : Stepped) → stepped mostWaiting d n s w (step m p) ≡ r
-          → behind left d s₀ w₀ y s w (next (step m p)) (step m p) r ≡ none
-      go m (refused number) q = refl
-      go m (taken done s′ w′) q = absurd (false-not-true _ e (took (step m p) done s′ w′ q .is-free))
+      go : (m : ℕ) (o : Stepped) → stepped r n P (step m p) ≡ o → behind r left P₀ y P (next (step m p)) (step m p) o ≡ none
+      go m (refused q) f = refl
+      go m (taken deed P′) f = absurd (false-not-true _ e (took (step m p) deed P′ f .is-free))
 
 -- The search of one more step is the loop over all places.
-pub pruned-places : (k : ℕ) (d : Domain) (s₀ : State) (w₀ : List Waiting) (y : Step) (n : ℕ) (s : State) (w : List Waiting)
-    → prunedOf (suc k) d s₀ w₀ y n s w ≡ placesFrom (tried k d s₀ w₀ y n s w (λ x. prunedOf k d s w x (suc n))) d w 0
+pub pruned-places : (k : ℕ) (r : Rules) (P₀ : Problem) (y : Step) (n : ℕ) (P : Problem)
+    → prunedOf (suc k) r P₀ y n P ≡ placesFrom (tried r k P₀ y n P (λ x. prunedOf k r P x (suc n))) (r .domain) (P .waiting) 0
 unfolding prunedOf
-pruned-places k d s₀ w₀ y n s w = places-all (tried k d s₀ w₀ y n s w (λ x. prunedOf k d s w x (suc n))) d w
+pruned-places k r P₀ y n P = places-all (tried r k P₀ y n P (λ x. prunedOf k r P x (suc n))) (r .domain) (P .waiting)

@@ -1,5 +1,5 @@
--- The ways in which a move is needed: a literal that must hold and does not at first takes its only maker, and an action that is
--- relevant to no goal at first takes the only method that brings one in. Assumes nothing.
+-- The ways in which a move is needed: a literal that must hold and does not at first takes its only maker, and an action that may be
+-- taken for no goal at first takes the only method that brings in one for which it may. Assumes nothing.
 use Prim.Native.Nat.{ℕ, suc, _<_}
 use mathlib.Core.Path.{_≡_, refl, ap, _∙_, subst}
 use mathlib.Core.Bool.{Bool, true, false}
@@ -10,10 +10,10 @@ use lib.Dec.{eqb}
 use lib.ListN.{length}
 use borrow.Author.Tests.{eqb-true, eqb-false}
 use Rattle.hgn.specs.Lists.{At}
-use Rattle.hgn.specs.Meaning.{Literal, Node, Domain, noNode, networkOf}
-use Rattle.hgn.specs.State.{State, literalHolds, contains, relevant}
-use Rattle.hgn.specs.Network.{Name, Waiting, step, enter, goalAt, noGoal, decomposed, mostWaiting}
-use Rattle.hgn.specs.Run.{Step, Move, act, use-method, moveOf, actionAt, methodAt}
+use Rattle.hgn.specs.Meaning.{Literal, Node, noNode, networkOf}
+use Rattle.hgn.specs.State.{literalHolds, contains}
+use Rattle.hgn.specs.Network.{Name, Waiting, step, enter, goalAt, noGoal, decomposed}
+use Rattle.hgn.specs.Run.{Step, Move, act, use-method, moveOf, actionAt, methodAt, Problem, Rules, Deed}
 use Rattle.hgn.proofs.Tests.{not-true-false, false-not-true, at-mem, at-getD, at-lt, at-of-lt, mem-at}
 use Rattle.hgn.proofs.Steps.{Moved, by-release, by-action, by-method, took}
 use Rattle.hgn.proofs.Moves.{method-known}
@@ -22,73 +22,76 @@ use Rattle.hgn.proofs.Best.{Runs, runs-head}
 use Rattle.pruning.specs.Needed.{Makes, Needed, needsOf, OnlyMaker, nodeIn, OnlyMethod, InEvery}
 use Rattle.pruning.proofs.Comes.{enter-formulas, makes-later, makes-cases, comes-made, goal-comes, move-comes, need-comes, node-comes}
 
-module _ (d : Domain) where
-  -- No goal is one to which the action is relevant.
-  abbrev NoneRelevant : ℕ → List Waiting → Type 0
-  NoneRelevant k w = (g : Waiting) → List·Memᴰ g w → relevant (actionAt d k .effects) (g .formula) ≡ false
+module _ (r : Rules) where
+  -- The action may be taken for none of the goals.
+  abbrev NoneFor : ℕ → List Waiting → Type 0
+  NoneFor k w = (g : Waiting) → List·Memᴰ g w → r .mayAct (actionAt (r .domain) k) (g .formula) ≡ false
 
-  module _ (k m : ℕ) (o : OnlyMethod d k m) where
-    -- Another method brings in no goal to which the action is relevant.
-    none-entered : (j : ℕ) → j < length (d .methods) → (j ≡ m → ⊥) → (n : ℕ) (parent : Option Name)
-        → NoneRelevant k (enter (step n) parent 0 (networkOf (methodAt d j)))
+  module _ (k m : ℕ) (o : OnlyMethod r k m) where
+    -- Another method brings in no goal for which the action may be taken.
+    none-entered : (j : ℕ) → j < length (r .domain .methods) → (j ≡ m → ⊥) → (n : ℕ) (parent : Option Name)
+        → NoneFor k (enter (step n) parent 0 (networkOf (methodAt (r .domain) j)))
     unfolding networkOf
     none-entered j b h n parent g i = not-true-false _ λ e.
-        let r = Memᴰ·of-map (λ (v : Node). v .formula) (methodAt d j .nodes)
-        (subst (List·Memᴰ (g .formula)) (enter-formulas (step n) parent 0 0 (methodAt d j .nodes)) (Memᴰ·map (λ (q : Waiting). q .formula) i)) in
-        let a = mem-at (r .1) in
+        let nodes = methodAt (r .domain) j .nodes in
+        let f = Memᴰ·of-map (λ (v : Node). v .formula) nodes
+        (subst (List·Memᴰ (g .formula)) (enter-formulas (step n) parent 0 0 nodes) (Memᴰ·map (λ (q : Waiting). q .formula) i)) in
+        let a = mem-at (f .1) in
         h (o j (a .0) b (at-lt (a .1))
-        (ap (λ (v : Node). relevant (actionAt d k .effects) (v .formula)) (at-getD noNode (a .1))
-        ∙ ap (relevant (actionAt d k .effects)) (r .2) ∙ e))
+        (ap (λ (v : Node). r .mayAct (actionAt (r .domain) k) (v .formula)) (at-getD noNode (a .1))
+        ∙ ap (r .mayAct (actionAt (r .domain) k)) (f .2) ∙ e))
 
-    -- The action is taken at a goal to which it is relevant, so a method used before brought that goal in.
-    method-made : (n : ℕ) (s : State) (w : List Waiting) (xs : List Step) → Runs d n s w xs → NoneRelevant k w → Makes d xs (act k)
-        → Makes d xs (use-method m)
+    -- The action is taken for a goal for which it may be, so a method used before brought that goal in.
+    method-made : (n : ℕ) (P : Problem) (xs : List Step) → Runs r n P xs → NoneFor k (P .waiting) → Makes (r .domain) xs (act k)
+        → Makes (r .domain) xs (use-method m)
     unfolding decomposed
-    method-made n s w [] r h c = absurd (List·Memᴰ·not-nil (c .1))
-    method-made n s w (x ∷ xs) r h c =
-        let f = runs-head d n s w x xs r in
-        let t = took x (f .0) (f .1) (f .2) (f .3) in
-        let a = at-of-lt w (x .place) noGoal (t .inside) in
+    method-made n P [] e h c = absurd (List·Memᴰ·not-nil (c .1))
+    method-made n P (x ∷ xs) e h c =
+        let f = runs-head r n P x xs e in
+        let t = took x (f .0) (f .1) (f .2) in
+        let a = at-of-lt (P .waiting) (x .place) noGoal (t .inside) in
         ⊎-elim
-        (λ e. absurd (not-yet a (subst (λ (j : Move). Moved mostWaiting d n s w (x .place) j (f .0) (f .1) (f .2)) e (t .by))))
-        (λ e. go a refl (t .by) (λ v. makes-later d (method-made (suc n) (f .1) (f .2) xs (f .4) v e)))
-        (makes-cases d c)
+        (λ q. absurd (not-yet a (subst (λ (j : Move). Moved r n P (x .place) j (f .0) (f .1)) q (t .by))))
+        (λ q. go a refl (t .by) (λ v. makes-later (r .domain) (method-made (suc n) (f .1) xs (f .3) v q)))
+        (makes-cases (r .domain) c)
       where
-        not-yet : {p : ℕ} {done : List ℕ} {s′ : State} {w′ : List Waiting} → At w p (goalAt w p) → Moved mostWaiting d n s w p (act k) done s′ w′ → ⊥
-        not-yet {p} a (by-action b e) = false-not-true _ (h (goalAt w p) (at-mem a)) e
+        not-yet : {p : ℕ} {deed : Deed} {P′ : Problem} → At (P .waiting) p (goalAt (P .waiting) p) → Moved r n P p (act k) deed P′ → ⊥
+        not-yet {p} a (by-action b e) = false-not-true _ (h (goalAt (P .waiting) p) (at-mem a)) e
 
-        go : {p : ℕ} {y : Move} {done : List ℕ} {s′ : State} {w′ : List Waiting} → At w p (goalAt w p) → moveOf d (x .move) ≡ y
-            → Moved mostWaiting d n s w p y done s′ w′ → (NoneRelevant k w′ → Makes d (x ∷ xs) (use-method m)) → Makes d (x ∷ xs) (use-method m)
+        go : {p : ℕ} {y : Move} {deed : Deed} {P′ : Problem} → At (P .waiting) p (goalAt (P .waiting) p) → moveOf (r .domain) (x .move) ≡ y
+            → Moved r n P p y deed P′ → (NoneFor k (P′ .waiting) → Makes (r .domain) (x ∷ xs) (use-method m))
+            → Makes (r .domain) (x ∷ xs) (use-method m)
         go a q (by-release b) ih = ih (λ g i. h g (released-mem a i))
         go a q (by-action b e) ih = ih h
         go {p} a q (by-method {m = j} b e l) ih = decide (eqb j m) refl
           where
-            decide : (y : Bool) → eqb j m ≡ y → Makes d (x ∷ xs) (use-method m)
+            decide : (y : Bool) → eqb j m ≡ y → Makes (r .domain) (x ∷ xs) (use-method m)
             decide true y = (x, List·Memᴰ·head refl, q ∙ ap use-method (eqb-true j m y))
             decide false y =
+                let parent = some (goalAt (P .waiting) p .name) in
                 ih λ g i.
-                ⊎-elim (h g) (none-entered j (method-known d (x .move) j q) (eqb-false j m y) n (some (goalAt w p .name)) g)
-                (inserted-cases (enter (step n) (some (goalAt w p .name)) 0 (networkOf (methodAt d j))) a i)
+                ⊎-elim (h g) (none-entered j (method-known (r .domain) (x .move) j q) (eqb-false j m y) n parent g)
+                (inserted-cases (enter (step n) parent 0 (networkOf (methodAt (r .domain) j))) a i)
 
   -- The ways in which a move is needed.
 
-  module _ (s : State) (w : List Waiting) where
-    pub needed-by-goal : (g : Waiting) (l : Literal) (k : ℕ) → List·Memᴰ g w → InEvery l (g .formula) → literalHolds s l ≡ false → OnlyMaker d l k
-        → Needed d s w (act k)
-    needed-by-goal g l k i v f o n xs plan last e = comes-made d o f (goal-comes d v n s w xs (plan, last, e) i)
+  module _ (P : Problem) where
+    pub needed-by-goal : (g : Waiting) (l : Literal) (k : ℕ) → List·Memᴰ g (P .waiting) → InEvery l (g .formula)
+        → literalHolds (P .state) l ≡ false → OnlyMaker (r .domain) l k → Needed r P (act k)
+    needed-by-goal g l k i v f o n xs deeds last e = comes-made r o f (goal-comes r v n P xs (deeds, last, e) i)
 
-    pub needed-by-need : (m : Move) (l : Literal) (k : ℕ) → Needed d s w m → contains (needsOf d m) l ≡ true → literalHolds s l ≡ false → OnlyMaker d l k
-        → Needed d s w (act k)
-    needed-by-need m l k h c f o n xs plan last e =
-        comes-made d o f (move-comes d (need-comes d c) n s w xs (plan, last, e) (h n xs plan last e))
+    pub needed-by-need : (m : Move) (l : Literal) (k : ℕ) → Needed r P m → contains (needsOf (r .domain) m) l ≡ true
+        → literalHolds (P .state) l ≡ false → OnlyMaker (r .domain) l k → Needed r P (act k)
+    needed-by-need m l k h c f o n xs deeds last e =
+        comes-made r o f (move-comes r (need-comes r c) n P xs (deeds, last, e) (h n xs deeds last e))
 
-    pub needed-by-node : (m i : ℕ) (l : Literal) (k : ℕ) → Needed d s w (use-method m) → i < length (methodAt d m .nodes) → InEvery l (nodeIn d m i .formula)
-        → literalHolds s l ≡ false → OnlyMaker d l k → Needed d s w (act k)
-    needed-by-node m i l k h b v f o n xs plan last e =
-        comes-made d o f
-        (move-comes d (node-comes d (at-mem (at-of-lt (methodAt d m .nodes) i noNode b)) v) n s w xs (plan, last, e) (h n xs plan last e))
+    pub needed-by-node : (m i : ℕ) (l : Literal) (k : ℕ) → Needed r P (use-method m) → i < length (methodAt (r .domain) m .nodes)
+        → InEvery l (nodeIn (r .domain) m i .formula) → literalHolds (P .state) l ≡ false → OnlyMaker (r .domain) l k → Needed r P (act k)
+    needed-by-node m i l k h b v f o n xs deeds last e =
+        comes-made r o f
+        (move-comes r (node-comes r (at-mem (at-of-lt (methodAt (r .domain) m .nodes) i noNode b)) v) n P xs (deeds, last, e) (h n xs deeds last e))
 
-    pub needed-by-relevance : (k m : ℕ) → Needed d s w (act k)
-        → ((g : Waiting) → List·Memᴰ g w → relevant (actionAt d k .effects) (g .formula) ≡ false)
-        → OnlyMethod d k m → Needed d s w (use-method m)
-    needed-by-relevance k m h v o n xs plan last e = method-made k m o n s w xs (plan, last, e) v (h n xs plan last e)
+    pub needed-by-relevance : (k m : ℕ) → Needed r P (act k)
+        → ((g : Waiting) → List·Memᴰ g (P .waiting) → r .mayAct (actionAt (r .domain) k) (g .formula) ≡ false)
+        → OnlyMethod r k m → Needed r P (use-method m)
+    needed-by-relevance k m h v o n xs deeds last e = method-made k m o n P xs (deeds, last, e) v (h n xs deeds last e)

@@ -7,19 +7,19 @@ use mathlib.Core.List.{List, [], _∷_, _++_, append-assoc}
 use mathlib.Core.Option.{some}
 use lib.ListN.{length, drop, length-append}
 use lib.Seq.{take-append-seam, drop-append-seam, drop-append-add, getD-append-seam}
-use Rattle.hgn.specs.Meaning.{Node, Domain, goalOf, networkOf}
-use Rattle.hgn.specs.State.{State, formulaHolds, relevant}
-use Rattle.hgn.specs.Network.{Waiting, step, free, enter, goalAt, noGoal, released, decomposed}
-use Rattle.hgn.specs.Run.{Step, Move, release, act, use-method, unknown, moveOf, actionAt, methodAt, taken, stepped}
+use Rattle.hgn.specs.Meaning.{Node, Domain, networkOf}
+use Rattle.hgn.specs.State.{State}
+use Rattle.hgn.specs.Network.{Origin, Waiting, step, free, enter, goalAt, noGoal, released, decomposed}
+use Rattle.hgn.specs.Run.{Step, Move, release, act, use-method, unknown, moveOf, actionAt, methodAt, Problem, Rules, moved, Deed, deedOf, taken, stepped}
 use Rattle.hgn.proofs.Steps.{Moved, by-release, by-action, by-method, takes}
 use Rattle.pruning.specs.Rules.{ready, stateAfter}
 
 -- What a move asks of the goal's formula alone.
-unfoldable pub suits : Domain → Waiting → Move → Bool
-suits d g release = true
-suits d g (act k) = relevant (actionAt d k .effects) (g .formula)
-suits d g (use-method m) = relevant (goalOf (methodAt d m)) (g .formula)
-suits d g unknown = false
+unfoldable pub suits : Rules → Waiting → Move → Bool
+suits r g release = true
+suits r g (act k) = r .mayAct (actionAt (r .domain) k) (g .formula)
+suits r g (use-method m) = r .mayUse (methodAt (r .domain) m) (g .formula)
+suits r g unknown = false
 
 -- What stands in the goal's place after a move at step `n`.
 unfoldable pub into : Domain → ℕ → Waiting → Move → List Waiting
@@ -28,18 +28,29 @@ into d n g (act k) = g ∷ []
 into d n g (use-method m) = enter (step n) (some (g .name)) 0 (networkOf (methodAt d m)) ++ (g ∷ [])
 into d n g unknown = g ∷ []
 
--- The actions a move does.
-unfoldable pub doneBy : Move → List ℕ
-doneBy release = []
-doneBy (act k) = k ∷ []
-doneBy (use-method m) = []
-doneBy unknown = []
+abbrev pub problem : State → List Waiting → Problem
+problem s w = record { state = s; waiting = w }
 
--- What a move at `g` made of the state and the list, and that the goal's formula suited it.
-pub record Did (d : Domain) (n : ℕ) (s : State) (a : List Waiting) (g : Waiting) (c : List Waiting) (m : Move) (s′ : State) (w′ : List Waiting) : Type 0 where
-  pub suited : suits d g m ≡ true
-  pub state : s′ ≡ stateAfter d s m
-  pub list : w′ ≡ a ++ (into d n g m ++ c)
+-- The problem that a move at `g` leaves.
+abbrev pub afterMove : Domain → ℕ → State → List Waiting → Waiting → List Waiting → Move → Problem
+afterMove d n s a g c m = problem (stateAfter d s m) (a ++ (into d n g m ++ c))
+
+-- A move that was made suited its goal, and one that is ready and suits its goal may be made.
+module _ {r : Rules} {n p : ℕ} {P : Problem} where
+  suited-at : {m : Move} {deed : Deed} {P′ : Problem} → Moved r n P p m deed P′
+      → (suits r (goalAt (P .waiting) p) m ≡ true) × (P′ ≡ moved (r .domain) n P p m)
+  unfolding suits moved
+  suited-at (by-release h) = (refl, refl)
+  suited-at (by-action h q) = (q, refl)
+  suited-at (by-method h q l) = (q, refl)
+
+  moves-at : (m : Move) → ready (r .domain) (P .state) (goalAt (P .waiting) p) m ≡ true → suits r (goalAt (P .waiting) p) m ≡ true
+      → length (moved (r .domain) n P p m .waiting) ≤ r .limit → Moved r n P p m (deedOf P p m) (moved (r .domain) n P p m)
+  unfolding ready suits moved deedOf
+  moves-at release h q l = by-release h
+  moves-at (act k) h q l = by-action h q
+  moves-at (use-method m) h q l = by-method h q l
+  moves-at unknown h q l = absurd (false≢true q)
 
 module _ (a : List Waiting) (g : Waiting) (c : List Waiting) where
   pub goal-there : goalAt (a ++ (g ∷ c)) (length a) ≡ g
@@ -54,66 +65,62 @@ module _ (a : List Waiting) (g : Waiting) (c : List Waiting) where
       past : suc (length a) ≡ length a + 1
       past = omega arith
 
-  decomposed-there : (n : ℕ) (nodes : List Node)
-      → decomposed (a ++ (g ∷ c)) (length a) n nodes ≡ a ++ ((enter (step n) (some (g .name)) 0 nodes ++ (g ∷ [])) ++ c)
+  decomposed-there : (o : Origin) (nodes : List Node)
+      → decomposed (a ++ (g ∷ c)) (length a) o nodes ≡ a ++ ((enter o (some (g .name)) 0 nodes ++ (g ∷ [])) ++ c)
   unfolding decomposed
-  decomposed-there n nodes =
+  decomposed-there o nodes =
       ap₂ {C = List Waiting} (λ u v. u ++ v) (take-append-seam a (g ∷ c))
       (ap₂ {C = List Waiting} (λ u v. u ++ v)
-      (ap {B = List Waiting} (λ (q : Waiting). enter (step n) (some (q .name)) 0 nodes) goal-there)
+      (ap {B = List Waiting} (λ (q : Waiting). enter o (some (q .name)) 0 nodes) goal-there)
       (drop-append-seam a (g ∷ c))
-      ∙ sym (append-assoc (enter (step n) (some (g .name)) 0 nodes) (g ∷ []) c))
+      ∙ sym (append-assoc (enter o (some (g .name)) 0 nodes) (g ∷ []) c))
 
-  module _ {limit n : ℕ} {d : Domain} {s : State} where
-    did-there : {m : Move} {done : List ℕ} {s′ : State} {w′ : List Waiting} → Moved limit d n s (a ++ (g ∷ c)) (length a) m done s′ w′ → Did d n s a g c m s′ w′
-    unfolding suits into stateAfter
-    did-there (by-release h) = record { suited = refl; state = refl; list = released-there }
-    did-there (by-action {k = k} h r) = record {
-      suited = subst (λ (q : Waiting). relevant (actionAt d k .effects) (q .formula) ≡ true) goal-there r;
-      state = refl;
-      list = refl;
-    }
-    did-there (by-method {m = m} h r l) = record {
-      suited = subst (λ (q : Waiting). relevant (goalOf (methodAt d m)) (q .formula) ≡ true) goal-there r;
-      state = refl;
-      list = decomposed-there n (networkOf (methodAt d m));
-    }
+  moved-there : (d : Domain) (n : ℕ) (s : State) (m : Move) → moved d n (problem s (a ++ (g ∷ c))) (length a) m ≡ afterMove d n s a g c m
+  unfolding moved into stateAfter
+  moved-there d n s release = ap (problem s) released-there
+  moved-there d n s (act k) = refl
+  moved-there d n s (use-method m) = ap (problem s) (decomposed-there (step n) (networkOf (methodAt d m)))
+  moved-there d n s unknown = refl
 
-    moves-there : (m : Move) → ready d s g m ≡ true → suits d g m ≡ true → length (a ++ (into d n g m ++ c)) ≤ limit
-        → Moved limit d n s (a ++ (g ∷ c)) (length a) m (doneBy m) (stateAfter d s m) (a ++ (into d n g m ++ c))
-    unfolding ready suits into stateAfter doneBy
-    moves-there release h r l =
-        subst (λ (v : List Waiting). Moved limit d n s (a ++ (g ∷ c)) (length a) release [] s v) released-there
-        (by-release (subst (λ (q : Waiting). formulaHolds s (q .formula) ≡ true) (sym goal-there) h))
-    moves-there (act k) h r l =
-        by-action h (subst (λ (q : Waiting). relevant (actionAt d k .effects) (q .formula) ≡ true) (sym goal-there) r)
-    moves-there (use-method m) h r l =
-        subst (λ (v : List Waiting). Moved limit d n s (a ++ (g ∷ c)) (length a) (use-method m) [] s v) (decomposed-there n (networkOf (methodAt d m)))
-        (by-method h (subst (λ (q : Waiting). relevant (goalOf (methodAt d m)) (q .formula) ≡ true) (sym goal-there) r)
-        (subst (λ (v : List Waiting). length v ≤ limit) (sym (decomposed-there n (networkOf (methodAt d m)))) l))
-    moves-there unknown h r l = absurd (false≢true r)
+-- What a move at `g` made of the problem, and that the goal's formula suited it.
+pub record Did (r : Rules) (n : ℕ) (s : State) (a : List Waiting) (g : Waiting) (c : List Waiting) (m : Move) (P′ : Problem) : Type 0 where
+  pub suited : suits r g m ≡ true
+  pub leaves : P′ ≡ afterMove (r .domain) n s a g c m
 
--- What a step at the place of `g` did.
-pub did : (a : List Waiting) (g : Waiting) (c : List Waiting) {w : List Waiting} {limit n p : ℕ} {d : Domain} {s s′ : State} {m : Move} {done : List ℕ} {w′ : List Waiting}
-    → w ≡ a ++ (g ∷ c) → p ≡ length a → Moved limit d n s w p m done s′ w′ → Did d n s a g c m s′ w′
-did a g c {w} {limit} {n} {p} {d} {s} {s′} {m} {done} {w′} e q h =
-    did-there a g c (subst₂ (λ (l : List Waiting) (k : ℕ). Moved limit d n s l k m done s′ w′) e q h)
+module _ (a : List Waiting) (g : Waiting) (c : List Waiting) where
+  -- What a step at the place of `g` did.
+  pub did : {r : Rules} {n p : ℕ} {s : State} {P P′ : Problem} {m : Move} {deed : Deed}
+      → P ≡ problem s (a ++ (g ∷ c)) → p ≡ length a → Moved r n P p m deed P′ → Did r n s a g c m P′
+  did {r} {n} {p} {s} {P} {P′} {m} {deed} e q h =
+      let k = suited-at (subst₂ (λ (Q : Problem) (i : ℕ). Moved r n Q i m deed P′) e q h) in
+      record {
+        suited = subst (λ (v : Waiting). suits r v m ≡ true) (goal-there a g c) (k .0);
+        leaves = k .1 ∙ moved-there a g c (r .domain) n s m;
+      }
 
--- And back: a step that may be taken at the place of `g`.
-pub does : (a : List Waiting) (g : Waiting) (c : List Waiting) (limit : ℕ) (d : Domain) (n : ℕ) (s : State) (x : Step)
-    → x .place ≡ length a → free (a ++ (g ∷ c)) g ≡ true
-    → ready d s g (moveOf d (x .move)) ≡ true → suits d g (moveOf d (x .move)) ≡ true
-    → length (a ++ (into d n g (moveOf d (x .move)) ++ c)) ≤ limit
-    → stepped limit d n s (a ++ (g ∷ c)) x
-    ≡ taken (doneBy (moveOf d (x .move))) (stateAfter d s (moveOf d (x .move))) (a ++ (into d n g (moveOf d (x .move)) ++ c))
-does a g c limit d n s x q f h r l =
-    takes x _ _ _ (record {
-      inside = subst (λ (k : ℕ). k < length (a ++ (g ∷ c))) (sym q) (simp length-append (omega arith));
-      is-free = ap (λ (k : ℕ). free (a ++ (g ∷ c)) (goalAt (a ++ (g ∷ c)) k)) q ∙ ap (free (a ++ (g ∷ c))) (goal-there a g c) ∙ f;
-      by =
-          subst
-          (λ (k : ℕ). Moved limit d n s (a ++ (g ∷ c)) k (moveOf d (x .move)) (doneBy (moveOf d (x .move))) (stateAfter d s (moveOf d (x .move)))
-          (a ++ (into d n g (moveOf d (x .move)) ++ c)))
-          (sym q)
-          (moves-there a g c (moveOf d (x .move)) h r l);
-    })
+  module _ (r : Rules) (n : ℕ) (s : State) (x : Step) where
+    abbrev its : Move
+    its = moveOf (r .domain) (x .move)
+
+    abbrev list : List Waiting
+    list = a ++ (g ∷ c)
+
+    -- And back: a step that may be taken at the place of `g`.
+    pub does : x .place ≡ length a → free list g ≡ true → ready (r .domain) s g its ≡ true → suits r g its ≡ true
+        → length (afterMove (r .domain) n s a g c its .waiting) ≤ r .limit
+        → stepped r n (problem s list) x ≡ taken (deedOf (problem s list) (x .place) its) (afterMove (r .domain) n s a g c its)
+    does q f h k l =
+        takes x (deedOf (problem s list) (x .place) its) _ (record {
+          inside = subst (λ (i : ℕ). i < length list) (sym q) (simp length-append (omega arith));
+          is-free = ap (free list) goal ∙ f;
+          by =
+              subst (Moved r n (problem s list) (x .place) its (deedOf (problem s list) (x .place) its)) after
+              (moves-at its (ap (λ (v : Waiting). ready (r .domain) s v its) goal ∙ h) (ap (λ (v : Waiting). suits r v its) goal ∙ k)
+              (subst (λ (Q : Problem). length (Q .waiting) ≤ r .limit) (sym after) l));
+        })
+      where
+        goal : goalAt list (x .place) ≡ g
+        goal = ap (goalAt list) q ∙ goal-there a g c
+
+        after : moved (r .domain) n (problem s list) (x .place) its ≡ afterMove (r .domain) n s a g c its
+        after = ap (λ (i : ℕ). moved (r .domain) n (problem s list) i its) q ∙ moved-there a g c (r .domain) n s its

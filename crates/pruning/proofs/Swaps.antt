@@ -5,7 +5,8 @@ use native.Mathlib.Omega.{arith}
 use mathlib.Core.Path.{_≡_, refl, sym, ap, ap₂, _∙_, subst, subst₂}
 use mathlib.Core.Bool.{Bool, true, false, cond, _&&_, Bool·beq, false≢true}
 use mathlib.Core.Logic.{⊎-elim, _≢_}
-use mathlib.Core.List.{List, [], _∷_, _++_, map, map-append, append-assoc, List·Memᴰ, List·Memᴰ·head, List·Memᴰ·tail, List·Memᴰ·not-nil, List·Memᴰ·append-cases, List·Memᴰ·eq-of-singleton, Memᴰ·append-left, Memᴰ·append-right}
+use mathlib.Core.List.{List, [], _∷_, _++_, map, map-append, append-assoc}
+use mathlib.Core.List.{List·Memᴰ, List·Memᴰ·head, List·Memᴰ·tail, List·Memᴰ·not-nil, List·Memᴰ·append-cases, List·Memᴰ·eq-of-singleton, Memᴰ·append-left, Memᴰ·append-right}
 use mathlib.Core.Option.{some}
 use lib.Dec.{eqb, ltb}
 use lib.ListN.{length, take, drop, length-append, length-take, length-map}
@@ -13,19 +14,19 @@ use lib.Seq.{split-at}
 use borrow.Author.Tests.{eqb-true, eqb-false, eq-eqb, ne-eqb, ltb-true}
 use Rattle.hgn.specs.Meaning.{Domain, networkOf}
 use Rattle.hgn.specs.State.{State}
-use Rattle.hgn.specs.Network.{Waiting, step, free, enter, goalAt, noGoal, mostWaiting}
-use Rattle.hgn.specs.Run.{Step, Move, release, act, use-method, unknown, moveOf, methodAt, taken, stepped, accepted, run}
+use Rattle.hgn.specs.Network.{Waiting, step, free, enter, goalAt, noGoal}
+use Rattle.hgn.specs.Run.{Step, Move, release, act, use-method, unknown, moveOf, methodAt, Problem, Rules, Deed, deedOf, taken, stepped, run}
 use Rattle.hgn.specs.Search.{lower-place, lower-move}
 use Rattle.hgn.specs.Definition1.{Listed}
 use Rattle.hgn.proofs.Tests.{and-true, or-true, beq-true, not-true-false, free-iff-none-listed}
 use Rattle.hgn.proofs.Steps.{Moved, by-release, by-action, by-method, Took, took, takes}
-use Rattle.hgn.proofs.Runs.{Resumes, resumes, resumed-accepts}
 use Rattle.hgn.proofs.Names.{Fresh, Distinct, Named, strangers}
+use Rattle.hgn.proofs.Embedding.{renamedDeed}
 use Rattle.hgn.proofs.Renaming.{Injective, rename, later, enter-renamed, run-renamed, rename-kept, list-kept}
 use Rattle.hgn.proofs.Waits.{waits-at-most}
-use Rattle.hgn.proofs.Best.{Runs, Best}
+use Rattle.hgn.proofs.Best.{Runs, Best, runs-head, runs-cons, best-head}
 use Rattle.pruning.specs.Rules.{ready, stateAfter, sameState, commute, isAction, goesFirst, couldGoFirst}
-use Rattle.pruning.proofs.Places.{into, doneBy, Did, goal-there, did, does}
+use Rattle.pruning.proofs.Places.{into, problem, Did, goal-there, did, does}
 
 -- States.
 
@@ -133,25 +134,29 @@ still-free d n a g v h m named k f = free-iff-none-listed _ h .1 none-listed
         (List·Memᴰ·append-cases a j)
 
 -- What the test says, part by part.
-record Could (d : Domain) (s : State) (w : List Waiting) (y x : Step) : Type 0 where
+record Could (d : Domain) (P : Problem) (y x : Step) : Type 0 where
   pub goes : goesFirst d y x ≡ true
-  pub was-free : free w (goalAt w (x .place)) ≡ true
-  pub ready-first : ready d s (goalAt w (x .place)) (moveOf d (x .move)) ≡ true
-  pub ready-then : ready d (stateAfter d s (moveOf d (x .move))) (goalAt w (y .place)) (moveOf d (y .move)) ≡ true
-  pub same : commute d s (moveOf d (y .move)) (moveOf d (x .move)) ≡ true
+  pub was-free : free (P .waiting) (goalAt (P .waiting) (x .place)) ≡ true
+  pub ready-first : ready d (P .state) (goalAt (P .waiting) (x .place)) (moveOf d (x .move)) ≡ true
+  pub ready-then : ready d (stateAfter d (P .state) (moveOf d (x .move))) (goalAt (P .waiting) (y .place)) (moveOf d (y .move)) ≡ true
+  pub same : commute d (P .state) (moveOf d (y .move)) (moveOf d (x .move)) ≡ true
 
-could : (d : Domain) (s : State) (w : List Waiting) (y x : Step) → couldGoFirst d s w y x ≡ true → Could d s w y x
+could : (d : Domain) (P : Problem) (y x : Step) → couldGoFirst d P y x ≡ true → Could d P y x
 unfolding couldGoFirst
-could d s w y x e =
-    let a = and-true (goesFirst d y x) _ e in
-    let b = and-true (free w (goalAt w (x .place))) _ (a .1) in
-    let c = and-true (ready d s (goalAt w (x .place)) (moveOf d (x .move))) _ (b .1) in
-    let f = and-true (ready d (stateAfter d s (moveOf d (x .move))) (goalAt w (y .place)) (moveOf d (y .move))) _ (c .1) in
+could d P y x e =
+    let a = and-true _ _ e in
+    let b = and-true _ _ (a .1) in
+    let c = and-true _ _ (b .1) in
+    let f = and-true _ _ (c .1) in
     record { goes = a .0; was-free = b .0; ready-first = c .0; ready-then = f .0; same = f .1 }
 
 -- At a lower place: `x` at the goal `g`, `y` at the goal `h`.
-module _ (a : List Waiting) (g : Waiting) (b : List Waiting) (h : Waiting) (c : List Waiting) (d : Domain) (n : ℕ) (s : State) (y x : Step) (xs : List Step)
+module _ (a : List Waiting) (g : Waiting) (b : List Waiting) (h : Waiting) (c : List Waiting)
+    (r : Rules) (n : ℕ) (s : State) (y x : Step) (xs : List Step)
     (at-g : x .place ≡ length a) (at-h : y .place ≡ length (a ++ (g ∷ b))) where
+  abbrev d : Domain
+  d = r .domain
+
   abbrev w : List Waiting
   w = a ++ (g ∷ (b ++ (h ∷ c)))
 
@@ -204,14 +209,16 @@ module _ (a : List Waiting) (g : Waiting) (b : List Waiting) (h : Waiting) (c : 
   lengths : length w₁ ≤ suc (length w₂)
   lengths = simp length-append (omega arith)
 
-  run-exchanged : (t : State) (plan : List ℕ) (last : State) → Named n w → run mostWaiting d (suc (suc n)) t v₂ xs ≡ accepted plan last
-      → run mostWaiting d (suc (suc n)) t w₂ xs ≡ accepted plan last
+  run-exchanged : (t : State) → Named n w → Runs r (suc (suc n)) (problem t v₂) xs → Runs r (suc (suc n)) (problem t w₂) xs
   unfolding later
-  run-exchanged t plan last named e =
-      ap₂ (λ (k : ℕ) (l : List Waiting). run mostWaiting d k t l xs) (sym (exchange-above n (suc (suc n)) (omega arith))) (sym (exchanged named))
-      ∙ run-renamed 0 (exchange n) (exchange-injective n) mostWaiting d xs (suc (suc n))
-      (λ k i. exchange-above n (suc k) (omega arith) ∙ ap suc (sym (exchange-above n k i))) t v₂
-      ∙ ap (later (exchange n)) e
+  run-exchanged t named e = (
+    map (renamedDeed (rename 0 (exchange n))) (e .0),
+    e .1,
+    ap₂ (λ (k : ℕ) (l : List Waiting). run r k (problem t l) xs) (sym (exchange-above n (suc (suc n)) (omega arith))) (sym (exchanged named))
+        ∙ run-renamed 0 (exchange n) (exchange-injective n) r xs (suc (suc n))
+        (λ k i. exchange-above n (suc k) (omega arith) ∙ ap suc (sym (exchange-above n k i))) (problem t v₂)
+        ∙ ap (later (rename 0 (exchange n)) (exchange n)) (e .2),
+  )
 
   whole : w ≡ (a ++ (g ∷ b)) ++ (h ∷ c)
   whole = sym (append-assoc a (g ∷ b) (h ∷ c))
@@ -222,65 +229,57 @@ module _ (a : List Waiting) (g : Waiting) (b : List Waiting) (h : Waiting) (c : 
   goal-h : goalAt w (y .place) ≡ h
   goal-h = ap₂ (λ (l : List Waiting) (k : ℕ). goalAt l k) whole at-h ∙ goal-there (a ++ (g ∷ b)) h c
 
-  exchanged-runs : (plan : List ℕ) (last : State) → run mostWaiting d n s w (y ∷ x ∷ xs) ≡ accepted plan last → Named n w → length xs < mostWaiting
-      → free w g ≡ true → ready d s g mx ≡ true → ready d (stateAfter d s mx) h my ≡ true → commute d s my mx ≡ true
-      → Runs d n s w (x ∷ moved-y ∷ xs)
-  exchanged-runs plan last e named few free-g ready-x ready-y same = (
-    doneBy mx ++ (doneBy my ++ r₂ .rest),
-    last,
-    resumed-accepts mostWaiting d n s w x (moved-y ∷ xs) (doneBy mx) (doneBy my ++ r₂ .rest) (stateAfter d s mx) last w₁ first-x
-        (resumed-accepts mostWaiting d (suc n) (stateAfter d s mx) w₁ moved-y xs (doneBy my) (r₂ .rest) (stateAfter d (stateAfter d s mx) my) last w₂ then-y
-        (run-exchanged (stateAfter d (stateAfter d s mx) my) (r₂ .rest) last named
-        (ap₂ (λ (t : State) (l : List Waiting). run mostWaiting d (suc (suc n)) t l xs) state (sym (did-x .list)) ∙ r₂ .goes-on))),
-  )
-    where
-      r₁ : Resumes mostWaiting d n s w y (x ∷ xs) plan last
-      r₁ = resumes mostWaiting d n s w y (x ∷ xs) plan last e
+  module _ {P₁ P₂ : Problem} {deed₁ deed₂ : Deed} (by-y : Took r n (problem s w) y deed₁ P₁) (by-x : Took r (suc n) P₁ x deed₂ P₂)
+      (rest : Runs r (suc (suc n)) P₂ xs) (named : Named n w) where
+    did-y : Did r n s (a ++ (g ∷ b)) h c my P₁
+    did-y = did (a ++ (g ∷ b)) h c (ap (problem s) whole) at-h (by-y .by)
 
-      r₂ : Resumes mostWaiting d (suc n) (r₁ .next) (r₁ .list) x xs (r₁ .rest) last
-      r₂ = resumes mostWaiting d (suc n) (r₁ .next) (r₁ .list) x xs (r₁ .rest) last (r₁ .goes-on)
+    did-x : Did r (suc n) (stateAfter d s my) a g (b ++ (into d n h my ++ c)) mx P₂
+    did-x =
+        did a g (b ++ (into d n h my ++ c))
+        (did-y .leaves ∙ ap (problem (stateAfter d s my)) (append-assoc a (g ∷ b) (into d n h my ++ c))) at-g (by-x .by)
 
-      by-y : Took mostWaiting d n s w y (r₁ .done) (r₁ .next) (r₁ .list)
-      by-y = took y (r₁ .done) (r₁ .next) (r₁ .list) (r₁ .first)
+    free-h : free w₁ h ≡ true
+    free-h =
+        still-free d n a g (b ++ (h ∷ c)) h mx named (Memᴰ·append-right b (List·Memᴰ·head refl))
+        (sym (ap (free w) goal-h) ∙ by-y .is-free)
 
-      did-y : Did d n s (a ++ (g ∷ b)) h c my (r₁ .next) (r₁ .list)
-      did-y = did (a ++ (g ∷ b)) h c whole at-h (by-y .by)
+    short : length w₂ ≤ length xs
+    short =
+        let k = waits-at-most r (suc (suc n)) P₂ xs rest in
+        let l : length (P₂ .waiting) ≡ length v₂ = ap (λ (Q : Problem). length (Q .waiting)) (did-x .leaves) in
+        let m : length w₂ ≡ length v₂ = ap length (sym (exchanged named)) ∙ length-map v₂ (rename 0 (exchange n)) in
+        omega arith
 
-      did-x : Did d (suc n) (r₁ .next) a g (b ++ (into d n h my ++ c)) mx (r₂ .next) (r₂ .list)
-      did-x =
-          did a g (b ++ (into d n h my ++ c)) (did-y .list ∙ append-assoc a (g ∷ b) (into d n h my ++ c)) at-g
-          (took x (r₂ .done) (r₂ .next) (r₂ .list) (r₂ .first) .by)
+    exchanged-runs : length xs < r .limit → free w g ≡ true → ready d s g mx ≡ true → ready d (stateAfter d s mx) h my ≡ true
+        → commute d s my mx ≡ true → Runs r n (problem s w) (x ∷ moved-y ∷ xs)
+    exchanged-runs few free-g ready-x ready-y same =
+        runs-cons r n (problem s w) x (moved-y ∷ xs) first-x
+        (runs-cons r (suc n) (problem (stateAfter d s mx) w₁) moved-y xs then-y
+        (run-exchanged (stateAfter d (stateAfter d s mx) my) named
+        (subst (λ (Q : Problem). Runs r (suc (suc n)) Q xs)
+        (did-x .leaves ∙ ap (λ (t : State). problem t v₂) (sym (either-way d s my mx same))) rest)))
+      where
+        first-x : stepped r n (problem s w) x ≡ taken (deedOf (problem s w) (x .place) mx) (problem (stateAfter d s mx) w₁)
+        first-x = does a g (b ++ (h ∷ c)) r n s x at-g free-g ready-x (did-x .suited) (omega (arith, lengths, short))
 
-      state : stateAfter d (stateAfter d s mx) my ≡ r₂ .next
-      state = either-way d s my mx same ∙ ap (λ (t : State). stateAfter d t mx) (sym (did-y .state)) ∙ sym (did-x .state)
+        deed-y : Deed
+        deed-y = deedOf (problem (stateAfter d s mx) ((a ++ (into d n g mx ++ b)) ++ (h ∷ c))) (moved-y .place) my
 
-      free-h : free w₁ h ≡ true
-      free-h =
-          still-free d n a g (b ++ (h ∷ c)) h mx named (Memᴰ·append-right b (List·Memᴰ·head refl))
-          (sym (ap (free w) goal-h) ∙ by-y .is-free)
+        then-y : stepped r (suc n) (problem (stateAfter d s mx) w₁) moved-y ≡ taken deed-y (problem (stateAfter d (stateAfter d s mx) my) w₂)
+        then-y =
+            ap (λ (l : List Waiting). stepped r (suc n) (problem (stateAfter d s mx) l) moved-y) (sym (regroup (h ∷ c)))
+            ∙ does (a ++ (into d n g mx ++ b)) h c r (suc n) (stateAfter d s mx) moved-y refl
+            (ap (λ (l : List Waiting). free l h) (regroup (h ∷ c)) ∙ free-h) ready-y (did-y .suited)
+            (subst (λ (l : List Waiting). length l ≤ r .limit) (sym (regroup (into d (suc n) h my ++ c))) (omega (arith, short)))
+            ∙ ap (λ (l : List Waiting). taken deed-y (problem (stateAfter d (stateAfter d s mx) my) l)) (regroup (into d (suc n) h my ++ c))
 
-      short : length w₂ ≤ length xs
-      short =
-          let k = waits-at-most d (suc (suc n)) (r₂ .next) (r₂ .list) xs (r₂ .rest, last, r₂ .goes-on) in
-          let l : length (r₂ .list) ≡ length v₂ = ap length (did-x .list) in
-          let m : length w₂ ≡ length v₂ = ap length (sym (exchanged named)) ∙ length-map v₂ (rename 0 (exchange n)) in
-          omega arith
-
-      first-x : stepped mostWaiting d n s w x ≡ taken (doneBy mx) (stateAfter d s mx) w₁
-      first-x = does a g (b ++ (h ∷ c)) mostWaiting d n s x at-g free-g ready-x (did-x .suited) (omega (arith, lengths, short))
-
-      then-y : stepped mostWaiting d (suc n) (stateAfter d s mx) w₁ moved-y ≡ taken (doneBy my) (stateAfter d (stateAfter d s mx) my) w₂
-      then-y =
-          ap (λ (l : List Waiting). stepped mostWaiting d (suc n) (stateAfter d s mx) l moved-y) (sym (regroup (h ∷ c)))
-          ∙ does (a ++ (into d n g mx ++ b)) h c mostWaiting d (suc n) (stateAfter d s mx) moved-y refl
-          (ap (λ (l : List Waiting). free l h) (regroup (h ∷ c)) ∙ free-h) ready-y (did-y .suited)
-          (subst (λ (l : List Waiting). length l ≤ mostWaiting) (sym (regroup (into d (suc n) h my ++ c))) (omega (arith, short)))
-          ∙ ap (taken (doneBy my) (stateAfter d (stateAfter d s mx) my)) (regroup (into d (suc n) h my ++ c))
-
-  never-lower : Named n w → Best d n s w (y ∷ x ∷ xs) → length xs < mostWaiting → Could d s w y x → ⊥
+  never-lower : Named n w → Best r n (problem s w) (y ∷ x ∷ xs) → length xs < r .limit → Could d (problem s w) y x → ⊥
   never-lower named best few k =
+      let f = runs-head r n (problem s w) y (x ∷ xs) (best .runs) in
+      let e = runs-head r (suc n) (f .1) x xs (f .3) in
       best .earliest (x ∷ moved-y ∷ xs)
-      (exchanged-runs (best .runs .0) (best .runs .1) (best .runs .2) named few
+      (exchanged-runs (took y (f .0) (f .1) (f .2)) (took x (e .0) (e .1) (e .2)) (e .3) named few
       (sym (ap (free w) goal-g) ∙ k .was-free)
       (sym (ap (λ (q : Waiting). ready d s q mx) goal-g) ∙ k .ready-first)
       (sym (ap (λ (q : Waiting). ready d (stateAfter d s mx) q my) goal-h) ∙ k .ready-then)
@@ -290,102 +289,86 @@ module _ (a : List Waiting) (g : Waiting) (b : List Waiting) (h : Waiting) (c : 
 
 -- Two actions, at whatever places: the list stays as it is.
 
--- What an action did, and that it may be done at another moment where its needs hold.
-record Again (limit : ℕ) (d : Domain) (n₂ : ℕ) (s s₂ : State) (w : List Waiting) (p : ℕ) (m : Move) (done : List ℕ) (s′ : State) (w′ : List Waiting) : Type 0 where
-  pub list : w′ ≡ w
-  pub state : s′ ≡ stateAfter d s m
-  pub again : Moved limit d n₂ s₂ w p m done (stateAfter d s₂ m) w
+-- What an action did, and that it may be done at another moment with this list where its needs hold.
+record Again (r : Rules) (n₂ : ℕ) (s₂ : State) (P : Problem) (p : ℕ) (m : Move) (deed : Deed) (P′ : Problem) : Type 0 where
+  pub leaves : P′ ≡ problem (stateAfter (r .domain) (P .state) m) (P .waiting)
+  pub again : Moved r n₂ (problem s₂ (P .waiting)) p m deed (problem (stateAfter (r .domain) s₂ m) (P .waiting))
 
-act-again : {limit n p : ℕ} {d : Domain} {s s′ : State} {w w′ : List Waiting} {m : Move} {done : List ℕ} (n₂ : ℕ) (s₂ : State) (q : Waiting) → isAction m ≡ true
-    → ready d s₂ q m ≡ true → Moved limit d n s w p m done s′ w′ → Again limit d n₂ s s₂ w p m done s′ w′
+act-again : {r : Rules} {n p : ℕ} {P P′ : Problem} {m : Move} {deed : Deed} (n₂ : ℕ) (s₂ : State) (q : Waiting)
+    → isAction m ≡ true → ready (r .domain) s₂ q m ≡ true → Moved r n P p m deed P′ → Again r n₂ s₂ P p m deed P′
 unfolding isAction ready stateAfter
-act-again n₂ s₂ q i r (by-release a) = absurd (false≢true i)
-act-again n₂ s₂ q i r (by-action a b) = record { list = refl; state = refl; again = by-action r b }
-act-again n₂ s₂ q i r (by-method a b c) = absurd (false≢true i)
+act-again n₂ s₂ q i h (by-release a) = absurd (false≢true i)
+act-again n₂ s₂ q i h (by-action a b) = record { leaves = refl; again = by-action h b }
+act-again n₂ s₂ q i h (by-method a b c) = absurd (false≢true i)
 
-module _ (d : Domain) (n : ℕ) (s : State) (w : List Waiting) (y x : Step) (xs : List Step) (plan : List ℕ) (last : State)
-    (e : run mostWaiting d n s w (y ∷ x ∷ xs) ≡ accepted plan last) where
-  abbrev after-x : State
-  after-x = stateAfter d s (moveOf d (x .move))
+module _ (r : Rules) (n : ℕ) (P : Problem) (y x : Step) (xs : List Step) where
+  abbrev after-x : Problem
+  after-x = problem (stateAfter (r .domain) (P .state) (moveOf (r .domain) (x .move))) (P .waiting)
 
-  both-act : isAction (moveOf d (x .move)) ≡ true → isAction (moveOf d (y .move)) ≡ true → Could d s w y x → Runs d n s w (x ∷ y ∷ xs)
-  both-act is-x is-y k = (
-    r₂ .done ++ (r₁ .done ++ r₂ .rest),
-    last,
-    resumed-accepts mostWaiting d n s w x (y ∷ xs) (r₂ .done) (r₁ .done ++ r₂ .rest) after-x last w
-        (takes x _ _ _ (record { inside = by-x .inside; is-free = by-x .is-free; by = did-x .again }))
-        (resumed-accepts mostWaiting d (suc n) after-x w y xs (r₁ .done) (r₂ .rest) (stateAfter d after-x (moveOf d (y .move))) last w
-        (takes y _ _ _ (record { inside = by-y .inside; is-free = by-y .is-free; by = did-y .again }))
-        (ap₂ (λ (t : State) (l : List Waiting). run mostWaiting d (suc (suc n)) t l xs)
-        (either-way d s (moveOf d (y .move)) (moveOf d (x .move)) (k .same) ∙ ap (λ (t : State). stateAfter d t (moveOf d (x .move))) (sym (did-y .state)) ∙ sym (did-x .state))
-        (sym (did-x .list)) ∙ r₂ .goes-on)),
-  )
-    where
-      r₁ : Resumes mostWaiting d n s w y (x ∷ xs) plan last
-      r₁ = resumes mostWaiting d n s w y (x ∷ xs) plan last e
+  abbrev after-y : Problem
+  after-y = problem (stateAfter (r .domain) (P .state) (moveOf (r .domain) (y .move))) (P .waiting)
 
-      r₂ : Resumes mostWaiting d (suc n) (r₁ .next) (r₁ .list) x xs (r₁ .rest) last
-      r₂ = resumes mostWaiting d (suc n) (r₁ .next) (r₁ .list) x xs (r₁ .rest) last (r₁ .goes-on)
+  both-act : Runs r n P (y ∷ x ∷ xs) → isAction (moveOf (r .domain) (x .move)) ≡ true → isAction (moveOf (r .domain) (y .move)) ≡ true
+      → Could (r .domain) P y x → Runs r n P (x ∷ y ∷ xs)
+  both-act runs is-x is-y k =
+      let f = runs-head r n P y (x ∷ xs) runs in
+      let by-y = took y (f .0) (f .1) (f .2) in
+      let did-y = act-again (suc n) (after-x .state) _ is-y (k .ready-then) (by-y .by) in
+      let e = runs-head r (suc n) after-y x xs (subst (λ (Q : Problem). Runs r (suc n) Q (x ∷ xs)) (did-y .leaves) (f .3)) in
+      let by-x = took x (e .0) (e .1) (e .2) in
+      let did-x = act-again n (P .state) _ is-x (k .ready-first) (by-x .by) in
+      runs-cons r n P x (y ∷ xs) (takes x (e .0) _ (record { inside = by-x .inside; is-free = by-x .is-free; by = did-x .again }))
+      (runs-cons r (suc n) after-x y xs (takes y (f .0) _ (record { inside = by-y .inside; is-free = by-y .is-free; by = did-y .again }))
+      (subst (λ (Q : Problem). Runs r (suc (suc n)) Q xs)
+      (did-x .leaves ∙ ap (λ (t : State). problem t (P .waiting)) (sym (either-way (r .domain) (P .state) _ _ (k .same)))) (e .3)))
 
-      by-y : Took mostWaiting d n s w y (r₁ .done) (r₁ .next) (r₁ .list)
-      by-y = took y (r₁ .done) (r₁ .next) (r₁ .list) (r₁ .first)
+  module _ (named : Named n (P .waiting)) (best : Best r n P (y ∷ x ∷ xs)) (few : length xs < r .limit) (k : Could (r .domain) P y x) where
+    at-lower : x .place < y .place → ⊥
+    at-lower l =
+        subst
+        (λ (v : List Waiting).
+        Named n v → Best r n (problem (P .state) v) (y ∷ x ∷ xs) → length xs < r .limit → Could (r .domain) (problem (P .state) v) y x → ⊥)
+        (sym parts)
+        (never-lower (take (x .place) u) (goalAt u (x .place)) (drop (suc (x .place)) u) (goalAt v (y .place)) (drop (suc (y .place)) v)
+        r n (P .state) y x xs (omega (arith, length-take (x .place) u, up-to-y)) (sym up-to-y ∙ ap length front))
+        named best few k
+      where
+        v : List Waiting
+        v = P .waiting
 
-      did-y : Again mostWaiting d (suc n) s after-x w (y .place) (moveOf d (y .move)) (r₁ .done) (r₁ .next) (r₁ .list)
-      did-y = act-again (suc n) after-x _ is-y (k .ready-then) (by-y .by)
+        inside : y .place < length v
+        inside = let f = best-head best in took y (f .0) (f .1) (f .2) .inside
 
-      by-x : Took mostWaiting d (suc n) (r₁ .next) w x (r₂ .done) (r₂ .next) (r₂ .list)
-      by-x =
-          subst (λ (l : List Waiting). Took mostWaiting d (suc n) (r₁ .next) l x (r₂ .done) (r₂ .next) (r₂ .list)) (did-y .list)
-          (took x (r₂ .done) (r₂ .next) (r₂ .list) (r₂ .first))
+        u : List Waiting
+        u = take (y .place) v
 
-      did-x : Again mostWaiting d n (r₁ .next) s w (x .place) (moveOf d (x .move)) (r₂ .done) (r₂ .next) (r₂ .list)
-      did-x = act-again n s _ is-x (k .ready-first) (by-x .by)
+        up-to-y : length u ≡ y .place
+        up-to-y = omega (arith, length-take (y .place) v, inside)
 
-module _ (d : Domain) (n : ℕ) (s : State) (w : List Waiting) (y x : Step) (xs : List Step) (named : Named n w) (best : Best d n s w (y ∷ x ∷ xs))
-    (few : length xs < mostWaiting) (k : Could d s w y x) where
-  at-lower : x .place < y .place → ⊥
-  at-lower l =
-      subst (λ (v : List Waiting). Named n v → Best d n s v (y ∷ x ∷ xs) → length xs < mostWaiting → Could d s v y x → ⊥) (sym parts)
-      (never-lower (take (x .place) u) (goalAt u (x .place)) (drop (suc (x .place)) u) (goalAt w (y .place)) (drop (suc (y .place)) w) d n s y x xs
-      (omega (arith, length-take (x .place) u, up-to-y)) (sym up-to-y ∙ ap length front))
-      named best few k
-    where
-      r : Resumes mostWaiting d n s w y (x ∷ xs) (best .runs .0) (best .runs .1)
-      r = resumes mostWaiting d n s w y (x ∷ xs) (best .runs .0) (best .runs .1) (best .runs .2)
+        front : u ≡ take (x .place) u ++ (goalAt u (x .place) ∷ drop (suc (x .place)) u)
+        front = split-at u (x .place) noGoal (omega (arith, up-to-y))
 
-      inside : y .place < length w
-      inside = took y (r .done) (r .next) (r .list) (r .first) .inside
+        parts : v ≡ take (x .place) u ++ (goalAt u (x .place) ∷ (drop (suc (x .place)) u ++ (goalAt v (y .place) ∷ drop (suc (y .place)) v)))
+        parts =
+            split-at v (y .place) noGoal inside
+            ∙ ap {B = List Waiting} (λ l. l ++ (goalAt v (y .place) ∷ drop (suc (y .place)) v)) front
+            ∙ append-assoc (take (x .place) u) (goalAt u (x .place) ∷ drop (suc (x .place)) u) (goalAt v (y .place) ∷ drop (suc (y .place)) v)
 
-      u : List Waiting
-      u = take (y .place) w
-
-      up-to-y : length (take (y .place) w) ≡ y .place
-      up-to-y = omega (arith, length-take (y .place) w, inside)
-
-      front : u ≡ take (x .place) u ++ (goalAt u (x .place) ∷ drop (suc (x .place)) u)
-      front = split-at u (x .place) noGoal (omega (arith, up-to-y))
-
-      parts : w ≡ take (x .place) u ++ (goalAt u (x .place) ∷ (drop (suc (x .place)) u ++ (goalAt w (y .place) ∷ drop (suc (y .place)) w)))
-      parts =
-          split-at w (y .place) noGoal inside
-          ∙ ap {B = List Waiting} (λ l. l ++ (goalAt w (y .place) ∷ drop (suc (y .place)) w)) front
-          ∙ append-assoc (take (x .place) u) (goalAt u (x .place) ∷ drop (suc (x .place)) u) (goalAt w (y .place) ∷ drop (suc (y .place)) w)
-
-  at-one : (eqb (x .place) (y .place) && (ltb (x .move) (y .move) && (isAction (moveOf d (x .move)) && isAction (moveOf d (y .move))))) ≡ true → ⊥
-  at-one e =
-      let p = and-true (eqb (x .place) (y .place)) _ e in
-      let m = and-true (ltb (x .move) (y .move)) _ (p .1) in
-      let i = and-true (isAction (moveOf d (x .move))) _ (m .1) in
-      best .earliest (x ∷ y ∷ xs) (both-act d n s w y x xs (best .runs .0) (best .runs .1) (best .runs .2) (i .0) (i .1) k) refl
-      (lower-move (eqb-true _ _ (p .0)) (ltb-true _ _ (m .0)))
+    at-one : (eqb (x .place) (y .place)
+        && (ltb (x .move) (y .move) && (isAction (moveOf (r .domain) (x .move)) && isAction (moveOf (r .domain) (y .move))))) ≡ true → ⊥
+    at-one e =
+        let p = and-true (eqb (x .place) (y .place)) _ e in
+        let m = and-true (ltb (x .move) (y .move)) _ (p .1) in
+        let i = and-true (isAction (moveOf (r .domain) (x .move))) _ (m .1) in
+        best .earliest (x ∷ y ∷ xs) (both-act (best .runs) (i .0) (i .1) k) refl (lower-move (eqb-true _ _ (p .0)) (ltb-true _ _ (m .0)))
 
 -- The limit of the waiting list is asked of a method that goes first: the list then is at most one longer than the steps left after both.
-pub first-best : (d : Domain) (n : ℕ) (s : State) (w : List Waiting) (y x : Step) (xs : List Step) → Named n w → Best d n s w (y ∷ x ∷ xs)
-    → length xs < mostWaiting → couldGoFirst d s w y x ≡ false
+pub first-best : (r : Rules) (n : ℕ) (P : Problem) (y x : Step) (xs : List Step) → Named n (P .waiting) → Best r n P (y ∷ x ∷ xs)
+    → length xs < r .limit → couldGoFirst (r .domain) P y x ≡ false
 unfolding goesFirst
-first-best d n s w y x xs named best few = not-true-false _ (λ e. never (could d s w y x e))
+first-best r n P y x xs named best few = not-true-false _ (λ e. never (could (r .domain) P y x e))
   where
-    never : Could d s w y x → ⊥
+    never : Could (r .domain) P y x → ⊥
     never k =
-        ⊎-elim (λ l. at-lower d n s w y x xs named best few k (ltb-true _ _ l)) (at-one d n s w y x xs named best few k)
+        ⊎-elim (λ l. at-lower r n P y x xs named best few k (ltb-true _ _ l)) (at-one r n P y x xs named best few k)
         (or-true (ltb (x .place) (y .place)) _ (k .goes))

@@ -1,5 +1,5 @@
--- Moves that every accepted trace makes, and so the least number of its steps: where a search may begin. Not to be believed: `proofs/`
--- has a lemma for each way in which a move is needed.
+-- Moves that every accepted trace makes, and so the least number of its steps: where a search may begin. `proofs/` has a lemma for each
+-- way in which a move is needed, so no reader needs to trust this.
 use Prim.Native.Nat.{ℕ, suc, _+_, _≤_}
 use mathlib.Core.Path.{_≡_}
 use mathlib.Core.Bool.{true}
@@ -7,17 +7,16 @@ use mathlib.Core.Logic.{_≢_}
 use mathlib.Core.List.{List, [], _∷_, List·Memᴰ}
 use lib.ListN.{length, getD}
 use Rattle.hgn.specs.Meaning.{Literal, Formula, Node, Domain, noNode}
-use Rattle.hgn.specs.State.{State, contains, relevant}
-use Rattle.hgn.specs.Network.{Waiting, mostWaiting}
-use Rattle.hgn.specs.Run.{Step, Move, release, act, use-method, unknown, moveOf, actionAt, methodAt, run, accepted}
+use Rattle.hgn.specs.State.{State, contains}
+use Rattle.hgn.specs.Run.{Step, Move, release, act, use-method, unknown, moveOf, actionAt, methodAt, Problem, Rules, Deed, run, accepted}
 
 -- Some step makes the move.
 abbrev pub Makes : Domain → List Step → Move → Type 0
 Makes d xs m = (x : Step) × List·Memᴰ x xs × (moveOf d (x .move) ≡ m)
 
--- Every list of steps that is accepted from a state and a list makes the move.
-abbrev pub Needed : Domain → State → List Waiting → Move → Type 0
-Needed d s w m = (n : ℕ) (xs : List Step) (plan : List ℕ) (last : State) → run mostWaiting d n s w xs ≡ accepted plan last → Makes d xs m
+-- Every list of steps that is accepted from a problem makes the move.
+abbrev pub Needed : Rules → Problem → Move → Type 0
+Needed r P m = (n : ℕ) (xs : List Step) (deeds : List Deed) (last : State) → run r n P xs ≡ accepted deeds last → Makes (r .domain) xs m
 
 -- What a move needs of the state.
 abbrev pub needsOf : Domain → Move → List Literal
@@ -34,10 +33,10 @@ OnlyMaker d l k = (j : ℕ) → 1 ≤ j → j ≤ length (d .actions) → contai
 abbrev pub nodeIn : Domain → ℕ → ℕ → Node
 nodeIn d j i = getD (methodAt d j .nodes) i noNode
 
--- No method but `m` has a node to which action `k` is relevant.
-abbrev pub OnlyMethod : Domain → ℕ → ℕ → Type 0
-OnlyMethod d k m = (j i : ℕ) → suc j ≤ length (d .methods) → suc i ≤ length (methodAt d j .nodes)
-    → relevant (actionAt d k .effects) (nodeIn d j i .formula) ≡ true → j ≡ m
+-- No method but `m` has a node for which action `k` may be taken.
+abbrev pub OnlyMethod : Rules → ℕ → ℕ → Type 0
+OnlyMethod r k m = (j i : ℕ) → suc j ≤ length (r .domain .methods) → suc i ≤ length (methodAt (r .domain) j .nodes)
+    → r .mayAct (actionAt (r .domain) k) (nodeIn (r .domain) j i .formula) ≡ true → j ≡ m
 
 -- The literal stands in every alternative.
 abbrev pub InEvery : Literal → Formula → Type 0

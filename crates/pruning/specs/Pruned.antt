@@ -1,40 +1,37 @@
 -- The search of `Search` with the steps of `Rules` left out, by the depth, the places and the moves, as the code goes.
 use Prim.Native.Nat.{ℕ, zero, suc, _+_, _-_}
 use mathlib.Core.Bool.{cond}
-use mathlib.Core.List.{List, [], _∷_, map, flatten}
-use mathlib.Core.Option.{Option, none, some, Option·map}
+use mathlib.Core.List.{List, _∷_, map, flatten}
+use mathlib.Core.Option.{Option, none, Option·map}
 use lib.Dec.{leb}
 use lib.ListN.{length, drop}
 use Rattle.hgn.specs.Lists.{from, firstSome}
 use Rattle.hgn.specs.Meaning.{Domain}
-use Rattle.hgn.specs.State.{State}
-use Rattle.hgn.specs.Network.{Waiting, mostWaiting}
-use Rattle.hgn.specs.Run.{Step, firstMethod, Stepped, refused, taken, stepped}
+use Rattle.hgn.specs.Network.{Waiting}
+use Rattle.hgn.specs.Run.{Step, firstMethod, Problem, Rules, Stepped, refused, taken, stepped}
 use Rattle.hgn.specs.Trace.{step}
-use Rattle.hgn.specs.Search.{movesOf, stepsAt, candidates}
+use Rattle.hgn.specs.Search.{movesOf, stepsAt, candidates, noSteps}
 use Rattle.pruning.specs.Rules.{leftOut}
 
--- What is found behind a step: nothing where it is refused or left out. `next` searches on from the state and the list it leaves.
-unfoldable pub behind : ℕ → Domain → State → List Waiting → Step → State → List Waiting → (State → List Waiting → Option (List Step)) → Step → Stepped → Option (List Step)
-behind left d s₀ w₀ y s w next x (refused number) = none
-behind left d s₀ w₀ y s w next x (taken done s′ w′) =
-    cond (leftOut left d s₀ w₀ y s w x s′ w′) none (Option·map (λ xs. x ∷ xs) (next s′ w′))
+-- What is found behind a step: nothing where it is refused or left out. `next` searches on from the problem it leaves.
+unfoldable pub behind : Rules → ℕ → Problem → Step → Problem → (Problem → Option (List Step)) → Step → Stepped → Option (List Step)
+behind r left P₀ y P next x (refused q) = none
+behind r left P₀ y P next x (taken deed P′) = cond (leftOut r left P₀ y P x P′) none (Option·map (λ xs. x ∷ xs) (next P′))
 
--- The first trace of exactly so many steps, none left out, from step `n`, a state and a list. The step before was `y`, from `s₀` and `w₀`.
-unfoldable pub prunedOf : ℕ → Domain → State → List Waiting → Step → ℕ → State → List Waiting → Option (List Step)
-prunedOf zero d s₀ w₀ y n s [] = some []
-prunedOf zero d s₀ w₀ y n s (g ∷ w) = none
-prunedOf (suc k) d s₀ w₀ y n s w =
+-- The first trace of exactly so many steps, none left out, from step `n` and a problem. The step before was `y`, from `P₀`.
+unfoldable pub prunedOf : ℕ → Rules → Problem → Step → ℕ → Problem → Option (List Step)
+prunedOf zero r P₀ y n P = noSteps (P .waiting)
+prunedOf (suc k) r P₀ y n P =
     firstSome
-    (λ x. behind k d s₀ w₀ y s w (λ s′ w′. prunedOf k d s w x (suc n) s′ w′) x (stepped mostWaiting d n s w x))
-    (candidates d w)
+    (λ x. behind r k P₀ y P (λ P′. prunedOf k r P x (suc n) P′) x (stepped r n P x))
+    (candidates (r .domain) (P .waiting))
 
 -- No step was before the first: a release at place 0 stands for it, which no step goes before.
 abbrev pub noStep : Step
 noStep = step 0 0
 
-unfoldable pub prunedShortest : ℕ → Domain → State → List Waiting → Option (List Step)
-prunedShortest depth d s w = firstSome (λ k. prunedOf k d s w noStep 0 s w) (from 0 (suc depth))
+unfoldable pub prunedShortest : ℕ → Rules → Problem → Option (List Step)
+prunedShortest depth r P = firstSome (λ k. prunedOf k r P noStep 0 P) (from 0 (suc depth))
 
 -- The move of place `i` in `movesOf`, which holds 0 to K and then the methods.
 unfoldable pub moveAt : Domain → ℕ → ℕ

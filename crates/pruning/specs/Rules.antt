@@ -1,5 +1,5 @@
--- The steps that the search leaves out, one test for each reason. None stands on the first of the shortest traces, so a reader need not
--- believe any of it: `proofs/` has a lemma for each.
+-- The steps that the search leaves out, one test for each reason. None stands on the first of the shortest traces: `proofs/` has a lemma
+-- for each, so no reader needs to trust this.
 use Prim.Native.Nat.{ℕ}
 use mathlib.Core.Bool.{Bool, true, false, not, _&&_, _||_, Bool·beq}
 use mathlib.Core.List.{List, [], _∷_}
@@ -7,21 +7,22 @@ use lib.Dec.{eqb, ltb}
 use lib.ListN.{length, take}
 use Rattle.hgn.specs.Lists.{any, all}
 use Rattle.hgn.specs.Meaning.{Domain}
-use Rattle.hgn.specs.State.{State, γ, allHold, formulaHolds, relevant}
+use Rattle.hgn.specs.State.{State, γ, allHold, formulaHolds}
 use Rattle.hgn.specs.Network.{Waiting, free, goalAt}
-use Rattle.hgn.specs.Run.{Step, Move, release, act, use-method, unknown, moveOf, actionAt, methodAt}
+use Rattle.hgn.specs.Run.{Step, Move, release, act, use-method, unknown, moveOf, actionAt, methodAt, Problem, Rules}
 
 -- Too few steps are left for the goals that wait: each takes a release, and one more step is wanted where one of them does not hold.
-unfoldable pub tooFewLeft : ℕ → State → List Waiting → Bool
-tooFewLeft left s w =
-    ltb left (length w) || (eqb left (length w) && not (all (λ g. formulaHolds s (g .formula)) w))
+unfoldable pub tooFewLeft : ℕ → Problem → Bool
+tooFewLeft left P =
+    ltb left (length (P .waiting))
+    || (eqb left (length (P .waiting)) && not (all (λ g. formulaHolds (P .state) (g .formula)) (P .waiting)))
 
--- A free goal at a lower place has the action relevant too.
-unfoldable pub lowerToo : Domain → List Waiting → ℕ → Move → Bool
-lowerToo d w p (act k) = any (λ g. relevant (actionAt d k .effects) (g .formula) && free w g) (take p w)
-lowerToo d w p release = false
-lowerToo d w p (use-method m) = false
-lowerToo d w p unknown = false
+-- The action may be taken for a free goal at a lower place too.
+unfoldable pub lowerToo : Rules → List Waiting → ℕ → Move → Bool
+lowerToo r w p (act k) = any (λ g. r .mayAct (actionAt (r .domain) k) (g .formula) && free w g) (take p w)
+lowerToo r w p release = false
+lowerToo r w p (use-method m) = false
+lowerToo r w p unknown = false
 
 -- The action's effects hold already, so it leaves the state as it was.
 unfoldable pub idle : Domain → State → Move → Bool
@@ -74,21 +75,20 @@ goesFirst d y x =
     ltb (x .place) (y .place)
     || (eqb (x .place) (y .place) && (ltb (x .move) (y .move) && (isAction (moveOf d (x .move)) && isAction (moveOf d (y .move)))))
 
--- Step `x`, taken after step `y` from the state `s` and the list `w`, could have been taken before it with the same result: it goes
--- first, its goal was free, both ask nothing that fails in that order, and the state comes out the same.
-unfoldable pub couldGoFirst : Domain → State → List Waiting → Step → Step → Bool
-couldGoFirst d s w y x =
+-- Step `x`, taken after step `y` from the problem `P`, could have been taken before it with the same result: it goes first, its goal was
+-- free, both ask nothing that fails in that order, and the state comes out the same.
+unfoldable pub couldGoFirst : Domain → Problem → Step → Step → Bool
+couldGoFirst d P y x =
     goesFirst d y x
-    && (free w (goalAt w (x .place))
-    && (ready d s (goalAt w (x .place)) (moveOf d (x .move))
-    && (ready d (stateAfter d s (moveOf d (x .move))) (goalAt w (y .place)) (moveOf d (y .move))
-    && commute d s (moveOf d (y .move)) (moveOf d (x .move)))))
+    && (free (P .waiting) (goalAt (P .waiting) (x .place))
+    && (ready d (P .state) (goalAt (P .waiting) (x .place)) (moveOf d (x .move))
+    && (ready d (stateAfter d (P .state) (moveOf d (x .move))) (goalAt (P .waiting) (y .place)) (moveOf d (y .move))
+    && commute d (P .state) (moveOf d (y .move)) (moveOf d (x .move)))))
 
--- The step `x` from `s` and `w` to `s′` and `w′`, with so many steps left after it, is left out. The step before it was `y`, from `s₀`
--- and `w₀`.
-unfoldable pub leftOut : ℕ → Domain → State → List Waiting → Step → State → List Waiting → Step → State → List Waiting → Bool
-leftOut left d s₀ w₀ y s w x s′ w′ =
-    idle d s (moveOf d (x .move))
-    || (lowerToo d w (x .place) (moveOf d (x .move))
-    || (tooFewLeft left s′ w′
-    || couldGoFirst d s₀ w₀ y x))
+-- The step `x` from `P` to `P′`, with so many steps left after it, is left out. The step before it was `y`, from `P₀`.
+unfoldable pub leftOut : Rules → ℕ → Problem → Step → Problem → Step → Problem → Bool
+leftOut r left P₀ y P x P′ =
+    idle (r .domain) (P .state) (moveOf (r .domain) (x .move))
+    || (lowerToo r (P .waiting) (x .place) (moveOf (r .domain) (x .move))
+    || (tooFewLeft left P′
+    || couldGoFirst (r .domain) P₀ y x))
