@@ -16,7 +16,7 @@ ghost use lib.ListN.{length};
 ghost use Rattle.hgn.specs.Rows.{mostRows};
 ghost use Rattle.hgn.specs.Shop.{mostActions, mostMethods};
 ghost use Rattle.hgn.specs.Order.{checkOrder};
-ghost use Rattle.hgn.specs.Verdict.{passed};
+ghost use Rattle.hgn.specs.Questions.{passed};
 ghost use Rattle.network.specs.Tables.{Indexed};
 
 fn write_shown(shown: Shown) {

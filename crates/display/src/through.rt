@@ -11,7 +11,7 @@ ghost use lib.Dec.{eqb};
 ghost use lib.ListN.{length};
 ghost use Rattle.hgn.specs.Rows.{mostRows};
 ghost use Rattle.hgn.specs.Shop.{mostActions, mostMethods};
-ghost use Rattle.hgn.specs.Verdict.{passed};
+ghost use Rattle.hgn.specs.Questions.{passed};
 ghost use Rattle.hgn.specs.Trace.{stepCount, checkTrace};
 ghost use Rattle.hgn.specs.Run.{startOf};
 ghost use Rattle.hgn.specs.Network.{goalsOf};

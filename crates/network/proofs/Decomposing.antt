@@ -8,7 +8,7 @@ use mathlib.Core.Option.{some}
 use lib.ListN.{length, take, drop}
 use Rattle.hgn.specs.Meaning.{Node, networkOf, lastAfterAll}
 use Rattle.hgn.specs.Network as Network
-use Rattle.hgn.specs.Network.{goalAt, enter, decomposed}
+use Rattle.hgn.specs.Network.{step, goalAt, enter, decomposed}
 use Rattle.hgn.specs.Run.{methodAt}
 use Rattle.hgn.specs.Shop.{domain}
 use Rattle.hgn.proofs.Embedding.{take-map, drop-map}
@@ -35,7 +35,7 @@ module _ {shop order table : List ℕ} {m from to first : ℕ} (a : MethodAt sho
 
   -- The method's nodes have entered before the place.
   pub list-decomposed : {r : List Entry} → r ≡ take p (entriesOf w) ++ (entriesFrom Of.Shop n g true to 0 (a .bs) ++ drop p (entriesOf w))
-      → map (waitingOf shop order) r ≡ decomposed (listOf shop order w) p n (networkOf (methodAt (domain shop) m))
+      → map (waitingOf shop order) r ≡ decomposed (listOf shop order w) p (step n) (networkOf (methodAt (domain shop) m))
   unfolding decomposed networkOf
   list-decomposed e =
       ap (map (waitingOf shop order)) e

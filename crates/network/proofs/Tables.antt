@@ -5,7 +5,7 @@ use mathlib.Core.Path.{_≡_, sym, ap, _∙_}
 use mathlib.Core.List.{List, []}
 use lib.ListN.{length, getD, length-take, length-append}
 use lib.Seq.{getD-take}
-use Rattle.hgn.specs.Verdict.{passed}
+use Rattle.hgn.specs.Questions.{passed}
 use Rattle.hgn.specs.Shop.{rowCount, actionCount, methodCount, shopRows, checkShop}
 use Rattle.hgn.proofs.Checked.{shop-of-order}
 use Rattle.reading.specs.declared.position.Sheet.the-variants as Of

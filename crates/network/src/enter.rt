@@ -11,7 +11,7 @@ ghost use mathlib.Core.List.{List, _++_};
 ghost use Prim.Native.Nat.{ℕ, _<_, _≤_, _+_};
 ghost use lib.ListN.{length, take, drop};
 ghost use Rattle.hgn.specs.Meaning.{networkOf};
-ghost use Rattle.hgn.specs.Network.{decomposed};
+ghost use Rattle.hgn.specs.Network.{step, decomposed};
 ghost use Rattle.hgn.specs.Run.{methodAt};
 ghost use Rattle.hgn.specs.Shop.{domain, methodCount};
 ghost use Rattle.network.specs.Entries.{entriesOf, entryAt, listOf};
@@ -148,7 +148,7 @@ impl Waiting {
         requires { ⌜ ((order : List ℕ) × Indexed (now shop) order (now ends) (now starts)) ⌝ }
         requires { ⌜ (method < methodCount (now shop)) × (number < 65535) × (place .0 < self .count) × (parent ≡ entryAt self (place .0) .name) ⌝ }
         requires { ⌜ self .count + length (networkOf (methodAt (domain (now shop)) method)) ≤ 64 ⌝ }
-        ensures { λ r. ⌜ ((order : List ℕ) → Indexed (now (shop .entry)) order (now (ends .entry)) (now (starts .entry)) → listOf (now (shop .entry)) order r ≡ decomposed (listOf (now (shop .entry)) order self) (place .0) number (networkOf (methodAt (domain (now (shop .entry))) method))) ⌝ }
+        ensures { λ r. ⌜ ((order : List ℕ) → Indexed (now (shop .entry)) order (now (ends .entry)) (now (starts .entry)) → listOf (now (shop .entry)) order r ≡ decomposed (listOf (now (shop .entry)) order self) (place .0) (step number) (networkOf (methodAt (domain (now (shop .entry))) method))) ⌝ }
         ensures { λ r. ⌜ r .count ≤ 64 ⌝ }
     {
         let block = word(shop, 1) as usize + method as usize;

@@ -16,7 +16,7 @@ use Rattle.hgn.specs.Run.{methodAt, noMethod}
 use Rattle.hgn.specs.Shop.{domain, methodCount}
 use Rattle.hgn.specs.Order as OrderSheet
 use Rattle.hgn.specs.Order.{checkOrder}
-use Rattle.hgn.specs.Verdict.{passed}
+use Rattle.hgn.specs.Questions.{passed}
 use Rattle.hgn.specs.Network.{Waiting, order, step, free, enter, goalsOf, goalAt, noGoal, released, decomposed}
 use Rattle.hgn.specs.Definition1.{Listed}
 use Rattle.hgn.proofs.Tests.{at-mem, at-of-lt}

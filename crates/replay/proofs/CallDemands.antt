@@ -16,7 +16,7 @@ use Rattle.hgn.specs.Network as Network
 use Rattle.hgn.specs.Network.{Waiting, enter, goalsOf, mostWaiting}
 use Rattle.hgn.specs.Run.{Step, Outcome, accepted, run, startOf}
 use Rattle.hgn.specs.Join.{raised, join}
-use Rattle.hgn.specs.Verdict.{passed}
+use Rattle.hgn.specs.Questions.{passed}
 use Rattle.hgn.specs.Shop.{domain}
 use Rattle.hgn.specs.Order.{order, rowCount, checkOrder}
 use Rattle.hgn.specs.Trace.{stepCount, stepsOf, traceQuestions, checkTrace}

@@ -15,7 +15,7 @@ use Rattle.hgn.specs.Tag as Tag
 use Rattle.hgn.specs.Meaning.{nodeOf, nodesOf, orderOf}
 use Rattle.hgn.specs.Network as Network
 use Rattle.hgn.specs.Network.{enter, goalsOf}
-use Rattle.hgn.specs.Verdict.{passed}
+use Rattle.hgn.specs.Questions.{passed}
 use Rattle.hgn.specs.Order as Order
 use Rattle.hgn.specs.Order.{orderRows}
 use Rattle.hgn.proofs.Checked.{order-count}

@@ -13,7 +13,7 @@ use Rattle.hgn.specs.State.{State, mostAtoms}
 use Rattle.hgn.specs.Network.{Waiting, goalsOf, mostWaiting}
 use Rattle.hgn.specs.Run.{Step, taken, stepped, startOf}
 use Rattle.hgn.specs.Join.{Cut, join}
-use Rattle.hgn.specs.Verdict.{passed}
+use Rattle.hgn.specs.Questions.{passed}
 use Rattle.hgn.specs.Shop.{domain}
 use Rattle.hgn.specs.Order.{order, rowCount, checkOrder}
 use Rattle.hgn.specs.Trace.{stepCount, stepsOf, traceQuestions}

@@ -13,7 +13,7 @@ ghost use Prim.Native.Nat.{suc, _≤_, _+_};
 ghost use lib.ListN.{length, take, drop};
 ghost use Rattle.hgn.specs.Rows.{mostRows};
 ghost use Rattle.hgn.specs.Shop.{mostActions, mostMethods};
-ghost use Rattle.hgn.specs.Verdict.{passed};
+ghost use Rattle.hgn.specs.Questions.{passed};
 ghost use Rattle.hgn.specs.Trace.{checkTrace, stepCount};
 ghost use Rattle.hgn.specs.Run.{startOf};
 ghost use Rattle.hgn.specs.Network.{goalsOf};

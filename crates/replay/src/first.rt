@@ -23,7 +23,7 @@ ghost use Rattle.hgn.specs.Shop.{mostActions, mostMethods};
 ghost use Rattle.hgn.specs.Run.{startOf};
 ghost use Rattle.hgn.specs.Network.{goalsOf};
 ghost use Rattle.hgn.specs.Order as OrderSheet;
-ghost use Rattle.hgn.specs.Verdict.{passed};
+ghost use Rattle.hgn.specs.Questions.{passed};
 ghost use Rattle.network.specs.Entries.{listOf};
 ghost use Rattle.network.specs.Tables.{Indexed};
 ghost use Rattle.replay.specs.OrderTable.{OrderIndexed};

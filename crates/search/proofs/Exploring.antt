@@ -13,7 +13,7 @@ use Rattle.hgn.specs.Meaning.{Domain}
 use Rattle.hgn.specs.State.{State}
 use Rattle.hgn.specs.Network.{Waiting, goalAt}
 use Rattle.hgn.specs.Run.{Step, firstMethod}
-use Rattle.hgn.specs.Verdict.{passed}
+use Rattle.hgn.specs.Questions.{passed}
 use Rattle.hgn.specs.Shop.{domain, actionCount, methodCount, checkShop}
 use Rattle.hgn.specs.Trace.{step}
 use Rattle.hgn.specs.Search.{movesOf}

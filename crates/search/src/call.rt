@@ -16,7 +16,7 @@ ghost use lib.ListN.{length};
 ghost use lib.Seq.{paste};
 ghost use Rattle.hgn.specs.Rows.{mostRows};
 ghost use Rattle.hgn.specs.Shop.{mostActions, mostMethods, domain};
-ghost use Rattle.hgn.specs.Verdict.{passed};
+ghost use Rattle.hgn.specs.Questions.{passed};
 ghost use Rattle.hgn.specs.Order.{checkOrder};
 ghost use Rattle.hgn.specs.Search.{searched};
 ghost use Rattle.network.specs.Entries.{listOf};

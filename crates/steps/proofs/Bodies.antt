@@ -12,7 +12,7 @@ use Rattle.hgn.specs.State.{State}
 use Rattle.hgn.specs.Network.{Waiting, mostWaiting, free, anyFree, goalAt}
 use Rattle.hgn.specs.Run as Run
 use Rattle.hgn.specs.Run.{Step, Stepped, refused, ask, askFree, moved, moveOf, stepped}
-use Rattle.hgn.specs.Verdict.{passed}
+use Rattle.hgn.specs.Questions.{passed}
 use Rattle.hgn.specs.Shop.{domain, actionCount, methodCount, checkShop}
 use Rattle.hgn.proofs.Checked.{shop-counts}
 use Rattle.hgn.proofs.Steps.{free-answered}

@@ -6,7 +6,7 @@ use mathlib.Core.List.{List, _∷_, _++_}
 use lib.ListN.{length, drop}
 use borrow.Author.Needs.{needs}
 use Rattle.hgn.specs.Rows.{rowsOf}
-use Rattle.hgn.specs.Verdict.{passed}
+use Rattle.hgn.specs.Questions.{passed}
 use Rattle.hgn.specs.Shop.{shopRows, rowCount, actionCount, methodCount, checkShop}
 use Rattle.hgn.specs.Order as Order
 use Rattle.hgn.specs.Order.{orderRows}

@@ -5,7 +5,7 @@ use mathlib.Core.Path.{_≡_}
 use mathlib.Core.List.{List}
 use lib.ListN.{length, length-map}
 use borrow.Author.Needs.{needs}
-use Rattle.hgn.specs.Verdict.{passed}
+use Rattle.hgn.specs.Questions.{passed}
 use Rattle.hgn.specs.Order.{checkOrder}
 use Rattle.search.proofs.Calls.{sheet-refused, sheet-passes, too-deep, room-short, no-trace, trace-found}
 use Rattle.search.proofs.call.search.Statement.{statement}
