@@ -1,22 +1,26 @@
--- A step's questions as numbers: what they say of the step, and how they are answered from the rows. Assumes nothing.
+-- What is decided of a step, question by question, and how a method's questions are answered from its rows. Assumes nothing.
 use Prim.Native.Nat.{ℕ, _+_, _-_, _<_, _≤_}
 use native.Mathlib.Omega.{arith}
-use mathlib.Core.Path.{_≡_, refl, sym, ap, ap₂, _∙_}
+use mathlib.Core.Path.{_≡_, refl, sym, ap, _∙_}
 use mathlib.Core.Bool.{Bool, true, false, cond}
 use mathlib.Core.List.{List}
-use mathlib.Core.Option.{some}
-use lib.Dec.{leb}
-use lib.ListN.{length, getD, length-append, length-take, length-drop}
-use borrow.Author.Tests.{ne-eqb, leb-true, le-leb, lt-leb}
+use lib.ListN.{length, getD}
+use borrow.Author.Tests.{ne-eqb}
+use Rattle.hgn.specs.Questions as Questions
+use Rattle.hgn.specs.Questions.{_asks_, passed, firstNo, told}
 use Rattle.hgn.specs.Meaning as Meaning
-use Rattle.hgn.specs.Meaning.{Domain, Formula, Node, literals, nodeOf, goalOf, networkOf}
-use Rattle.hgn.specs.State.{State, allHold, formulaHolds, relevant}
+use Rattle.hgn.specs.Meaning.{Formula, literals, nodeOf, goalOf, networkOf}
+use Rattle.hgn.specs.State.{State, allHold, relevant}
 use Rattle.hgn.specs.Network as Network
-use Rattle.hgn.specs.Network.{mostWaiting, goalAt, free, anyFree, decomposed}
+use Rattle.hgn.specs.Network.{mostWaiting, goalAt, free, anyFree}
 use Rattle.hgn.specs.Run as Run
-use Rattle.hgn.specs.Run.{ask, refused, moveOf, actionAt, methodAt}
+use Rattle.hgn.specs.Run.{Problem, refused, moveOf, actionAt, methodAt, ownQuestions}
 use Rattle.hgn.specs.Shop.{domain, actionCount, methodCount}
-use Rattle.hgn.proofs.Waiting.{length-enter}
+use Rattle.hgn.specs.Replay.{rulesOf}
+use Rattle.hgn.proofs.Firsts.{Numbers, refused-number, told-passed}
+use Rattle.hgn.proofs.Numbers.{step-numbers}
+use Rattle.reading.specs.Refusals.{refusalOf}
+use Rattle.reading.specs.declared.refusal.Refusal.{Refusal}
 use Rattle.reading.specs.declared.position.Sheet.the-variants as Of
 use Rattle.spans.specs.declared.index.Span.{Span}
 use Rattle.formulas.specs.Spanned.{spanRows}
@@ -25,122 +29,50 @@ use Rattle.freeness.specs.Seeing.{Sees}
 use Rattle.network.specs.Entering.{Bounds, Walk, Counted}
 use Rattle.steps.specs.Moves.{Known, knownOf, readOf, moveRead}
 use Rattle.network.specs.Tables.{Indexed}
-use Rattle.steps.specs.Steps.{ifFree}
-use Rattle.steps.specs.Deciding.{actionQuestion, questionOf, toldOf, SeenIn, carried, Room, Decides}
+use Rattle.steps.specs.Steps.{problemIn}
+use Rattle.steps.specs.Deciding.{Faces, Answers, OfAction, toldOf, SeenIn, Decides}
 use Rattle.network.specs.declared.enter.Nodes.{Nodes}
 use Rattle.freeness.specs.declared.free.Seen.{Seen}
-use Rattle.network.specs.declared.waiting.Waiting.{Waiting}
 use Rattle.steps.specs.declared.moves.Move.{Move}
 use Rattle.steps.specs.declared.moves.Move.the-variants.{Release, Act, Use}
 use Rattle.steps.specs.declared.moves.Read.{Read}
 use Rattle.steps.specs.declared.moves.Read.the-variants.{Is, Unreadable}
+use Rattle.steps.specs.declared.problem.Problem as Code
 use Rattle.steps.specs.declared.questions.Decision.the-variants.{Refused, Takes}
 use Rattle.network.proofs.Tables.{shop-passes}
 use Rattle.network.proofs.Goals.{entries-length, list-length, goal-is}
 use Rattle.network.proofs.Uses.{MethodAt, method-size}
-use Rattle.steps.proofs.Bodies.{read-by-counts, step-25, step-26, step-27, step-28, step-body}
+use Rattle.steps.proofs.Bodies.{read-by-counts, step-25, step-26, step-27, step-28, own-refuses, own-takes, own-room, use-30, use-31, use-32, use-passed}
 use Rattle.steps.proofs.Actions.{known-read, known-action, action-rows}
 
--- One question, two, and three, as a number.
-abbrev one : Bool → ℕ
-one a = cond a 0 29
+-- The number of a move's own refusal is neither 0 nor 28.
+module _ (shop : List ℕ) (n p : ℕ) (P : Problem) where
+  own-numbers : (m : Move) → Numbers (λ k. 28 < k) (ownQuestions (rulesOf shop) n P p (knownOf m))
+  unfolding ownQuestions
+  own-numbers Release = (omega arith, tt)
+  own-numbers (Act k) = (omega arith, (omega arith, tt))
+  own-numbers (Use m) = (omega arith, (omega arith, (omega arith, tt)))
 
-abbrev two : Bool → Bool → ℕ
-two a b = cond a (cond b 0 31) 30
+  own-above : (m : Move) (q : Questions.Refusal) → firstNo (ownQuestions (rulesOf shop) n P p (knownOf m)) ≡ Questions.refused q → 28 < q .number
+  own-above m q e = refused-number (λ k. 28 < k) (ownQuestions (rulesOf shop) n P p (knownOf m)) (own-numbers m) q e
 
-abbrev three : Bool → Bool → Bool → ℕ
-three a b c = cond a (cond b (cond c 0 32) 31) 30
+  -- What was told of them: 0 where they passed, and else the refusal.
+  pub own-told : (m : Move) (a : Questions.Refusal) → a ≡ told (firstNo (ownQuestions (rulesOf shop) n P p (knownOf m)))
+      → (a .number ≡ 0 → firstNo (ownQuestions (rulesOf shop) n P p (knownOf m)) ≡ passed)
+      × ((a .number ≡ 0 → ⊥) → (firstNo (ownQuestions (rulesOf shop) n P p (knownOf m)) ≡ Questions.refused a) × (28 < a .number))
+  own-told m a e = go (firstNo (ownQuestions (rulesOf shop) n P p (knownOf m))) refl e
+    where
+      v : Questions.Verdict
+      v = firstNo (ownQuestions (rulesOf shop) n P p (knownOf m))
 
-module _ (x : Run.Stepped) where
-  one-yes : (a : Bool) → one a ≡ 0 → ask a 29 x ≡ x
-  unfolding ask
-  one-yes true e = refl
-  one-yes false e = absurd (omega arith)
-
-  one-no : (a : Bool) (q : ℕ) → one a ≡ q → (q ≡ 0 → ⊥) → ask a 29 x ≡ refused q
-  unfolding ask
-  one-no true q e z = absurd (z (sym e))
-  one-no false q e z = ap refused e
-
-  two-yes : (a b : Bool) → two a b ≡ 0 → ask a 30 (ask b 31 x) ≡ x
-  unfolding ask
-  two-yes true true e = refl
-  two-yes true false e = absurd (omega arith)
-  two-yes false b e = absurd (omega arith)
-
-  two-no : (a b : Bool) (q : ℕ) → two a b ≡ q → (q ≡ 0 → ⊥) → ask a 30 (ask b 31 x) ≡ refused q
-  unfolding ask
-  two-no true true q e z = absurd (z (sym e))
-  two-no true false q e z = ap refused e
-  two-no false b q e z = ap refused e
-
-  three-yes : (a b c : Bool) → three a b c ≡ 0 → ask a 30 (ask b 31 (ask c 32 x)) ≡ x
-  unfolding ask
-  three-yes true true true e = refl
-  three-yes true true false e = absurd (omega arith)
-  three-yes true false c e = absurd (omega arith)
-  three-yes false b c e = absurd (omega arith)
-
-  three-no : (a b c : Bool) (q : ℕ) → three a b c ≡ q → (q ≡ 0 → ⊥) → ask a 30 (ask b 31 (ask c 32 x)) ≡ refused q
-  unfolding ask
-  three-no true true true q e z = absurd (z (sym e))
-  three-no true true false q e z = ap refused e
-  three-no true false c q e z = ap refused e
-  three-no false b c q e z = ap refused e
-
-room-for : (a b c : Bool) (n : ℕ) → leb n 64 ≡ c → three a b c ≡ 0 → n ≤ 64
-room-for true true true n h e = leb-true n 64 h
-room-for true true false n h e = absurd (omega arith)
-room-for true false c n h e = absurd (omega arith)
-room-for false b c n h e = absurd (omega arith)
-
-not-28-one : (a : Bool) → one a ≡ 28 → ⊥
-not-28-one true e = omega arith
-not-28-one false e = omega arith
-
-not-28-two : (a b : Bool) → two a b ≡ 28 → ⊥
-not-28-two true true e = omega arith
-not-28-two true false e = omega arith
-not-28-two false b e = omega arith
-
-not-28-three : (a b c : Bool) → three a b c ≡ 28 → ⊥
-not-28-three true true true e = omega arith
-not-28-three true true false e = omega arith
-not-28-three true false c e = omega arith
-not-28-three false b c e = omega arith
-
--- A method's nodes enter, none leaves.
-pub decomposed-length : (w : List Network.Waiting) (p n : ℕ) (nodes : List Node) → p < length w → length (decomposed w p n nodes) ≡ length w + length nodes
-unfolding decomposed
-decomposed-length w p n nodes h =
-    let e = length-enter (Network.step n) (some (goalAt w p .name)) 0 nodes in
-    simp (length-append, length-take, length-drop) (omega arith)
-
-module _ (d : Domain) (s : State) (f : Formula) (count : ℕ) where
-  never-28 : (m : Move) → questionOf d s f count (knownOf m) ≡ 28 → ⊥
-  unfolding questionOf
-  never-28 Release e = not-28-one (formulaHolds s f) e
-  never-28 (Act k) e = not-28-two (allHold s (actionAt d k .needs)) (relevant (actionAt d k .effects) f) e
-  never-28 (Use m) e = not-28-three (allHold s (methodAt d m .needs)) (relevant (goalOf (methodAt d m)) f) (leb (count + length (networkOf (methodAt d m))) 64) e
-
-  pub leaves-room : (m : Move) → questionOf d s f count (knownOf m) ≡ 0 → Room d count m
-  unfolding questionOf
-  leaves-room Release e = tt
-  leaves-room (Act k) e = tt
-  leaves-room (Use m) e = room-for (allHold s (methodAt d m .needs)) (relevant (goalOf (methodAt d m)) f) (leb (count + length (networkOf (methodAt d m))) 64) _ refl e
-
-module _ (d : Domain) (n : ℕ) (s : State) (w : List Network.Waiting) (p : ℕ) (inside : p < length w) where
-  pub takes-it : (m : Move) → questionOf d s (goalAt w p .formula) (length w) (knownOf m) ≡ 0 → ifFree d n s w p (knownOf m) ≡ carried d n s w p m
-  unfolding questionOf ifFree
-  takes-it Release e = one-yes _ (formulaHolds s (goalAt w p .formula)) e
-  takes-it (Act k) e = two-yes _ (allHold s (actionAt d k .needs)) (relevant (actionAt d k .effects) (goalAt w p .formula)) e
-  takes-it (Use m) e = rw (decomposed-length w p n (networkOf (methodAt d m)) inside) (three-yes _ (allHold s (methodAt d m .needs)) (relevant (goalOf (methodAt d m)) (goalAt w p .formula)) (leb (length w + length (networkOf (methodAt d m))) 64) e)
-
-  pub refuses-it : (m : Move) (q : ℕ) → questionOf d s (goalAt w p .formula) (length w) (knownOf m) ≡ q → (q ≡ 0 → ⊥) → ifFree d n s w p (knownOf m) ≡ refused q
-  unfolding questionOf ifFree
-  refuses-it Release q e z = one-no _ (formulaHolds s (goalAt w p .formula)) q e z
-  refuses-it (Act k) q e z = two-no _ (allHold s (actionAt d k .needs)) (relevant (actionAt d k .effects) (goalAt w p .formula)) q e z
-  refuses-it (Use m) q e z = rw (decomposed-length w p n (networkOf (methodAt d m)) inside) (three-no _ (allHold s (methodAt d m .needs)) (relevant (goalOf (methodAt d m)) (goalAt w p .formula)) (leb (length w + length (networkOf (methodAt d m))) 64) q e z)
+      go : (o : Questions.Verdict) → firstNo (ownQuestions (rulesOf shop) n P p (knownOf m)) ≡ o → a ≡ told o
+          → (a .number ≡ 0 → firstNo (ownQuestions (rulesOf shop) n P p (knownOf m)) ≡ passed)
+          × ((a .number ≡ 0 → ⊥) → (firstNo (ownQuestions (rulesOf shop) n P p (knownOf m)) ≡ Questions.refused a) × (28 < a .number))
+      go passed f g = (λ z. f, λ z. absurd (z (ap (λ (r : Questions.Refusal). r .number) g)))
+      go (Questions.refused q) f g =
+          let h = own-above m q f in
+          let s = ap (λ (r : Questions.Refusal). r .number) g in
+          (λ z. absurd (omega arith), λ z. (f ∙ ap Questions.refused (sym g), omega arith))
 
 -- A move that was read is known.
 pub read-known : (shop : List ℕ) (move actions methods : ℕ) → actions ≡ actionCount shop → methods ≡ methodCount shop
@@ -149,106 +81,101 @@ read-known shop move actions methods a b reading reads {m} e = known-read move _
 
 -- What is decided of a step, question by question.
 module _ {shop order endTable startTable : List ℕ} (ix : Indexed shop order endTable startTable) (s : State) (count move p : ℕ) (seen : Seen)
-    (w : List Network.Waiting) (look : SeenIn shop order w count p seen) where
-  pub decide-past : count ≤ p → Decides shop s w move p (Refused 25)
-  decide-past h n = step-25 (domain shop) n s w move p (omega (arith, look .size))
+    (P : Problem) (look : SeenIn shop order s count seen P p) where
+  pub decide-past : count ≤ p → (r : Refusal) → refusalOf r ≡ (25 asks false) .refusal → Decides shop P move p (Refused r)
+  decide-past h r e n = step-25 (rulesOf shop) n P move p (omega (arith, look .size)) ∙ ap (λ (q : Questions.Refusal). refused (toldOf (P .waiting) q)) (sym e)
 
   module _ (h : p < count) {actions methods : ℕ} (a : actions ≡ actionCount shop) (b : methods ≡ methodCount shop)
       (reading : Read) (reads : readOf reading ≡ moveRead move actions methods) where
-    inside : p < length w
+    inside : p < length (P .waiting)
     inside = omega (arith, look .size)
 
     move-is : moveOf (domain shop) move ≡ readOf reading
     move-is = read-by-counts shop move (shop-passes ix) ∙ sym (reads ∙ rw (a, b))
 
-    pub decide-unknown : reading ≡ Unreadable → Decides shop s w move p (Refused 26)
-    decide-unknown e n = step-26 (domain shop) n s w move p inside (move-is ∙ ap readOf e)
+    pub decide-unknown : reading ≡ Unreadable → (r : Refusal) → refusalOf r ≡ (26 asks false) .refusal → Decides shop P move p (Refused r)
+    decide-unknown e r z n =
+        step-26 (rulesOf shop) n P move p inside (move-is ∙ ap readOf e) ∙ ap (λ (q : Questions.Refusal). refused (toldOf (P .waiting) q)) (sym z)
 
     module _ {m : Move} (e : reading ≡ Is m) where
-      goal-free : {v : Bool} → seen .free ≡ v → free w (goalAt w p) ≡ v
+      goal-free : {v : Bool} → seen .free ≡ v → free (P .waiting) (goalAt (P .waiting) p) ≡ v
       goal-free q = sym (look .free-is h) ∙ q
 
-      pub decide-held : seen .free ≡ false → Decides shop s w move p (Refused 28)
-      decide-held f n = go (anyFree w) refl
+      pub decide-held : seen .free ≡ false → (r : Refusal) → refusalOf r ≡ (28 asks false) .refusal → Decides shop P move p (Refused r)
+      decide-held f r z n = go (anyFree (P .waiting)) refl ∙ ap (λ (q : Questions.Refusal). refused (toldOf (P .waiting) q)) (sym z)
         where
-          go : (v : Bool) → anyFree w ≡ v → Run.stepped mostWaiting (domain shop) n s w (record { move = move; place = p }) ≡ refused (toldOf w 28)
-          go true q = step-28 (domain shop) n s w move p inside m (move-is ∙ ap readOf e) q (goal-free f) ∙ ap (λ (v : Bool). refused (cond v 28 27)) (sym q)
-          go false q = step-27 (domain shop) n s w move p inside m (move-is ∙ ap readOf e) q ∙ ap (λ (v : Bool). refused (cond v 28 27)) (sym q)
+          go : (v : Bool) → anyFree (P .waiting) ≡ v
+              → Run.stepped (rulesOf shop) n P (record { move = move; place = p }) ≡ refused (toldOf (P .waiting) ((28 asks false) .refusal))
+          go true q = step-28 (rulesOf shop) n P move p inside m (move-is ∙ ap readOf e) q (goal-free f) ∙ rw q
+          go false q = step-27 (rulesOf shop) n P move p inside m (move-is ∙ ap readOf e) q ∙ rw q
 
-      module _ (f : seen .free ≡ true) {q : ℕ} (said : q ≡ questionOf (domain shop) s (nodeOf (spanRows shop order (seen .goal .rows)) .formula) count (knownOf m)) where
-        formula-is : goalAt w p .formula ≡ nodeOf (spanRows shop order (seen .goal .rows)) .formula
+      module _ (f : seen .free ≡ true) {r : Refusal} (said : Answers shop order s (seen .goal .rows) count (knownOf m) r) where
+        faces : Faces shop order s (seen .goal .rows) count P p
         unfolding waitingOf
-        formula-is = ap (λ (g : Network.Waiting). g .formula) (look .goal h)
+        faces = record { state = look .state; formula = ap (λ (g : Network.Waiting). g .formula) (look .goal h); size = look .size }
 
-        asked : questionOf (domain shop) s (goalAt w p .formula) (length w) (knownOf m) ≡ q
-        asked = ap₂ (λ (g : Formula) (c : ℕ). questionOf (domain shop) s g c (knownOf m)) formula-is (look .size) ∙ sym said
-
-        pub decide-takes : q ≡ 0 → Decides shop s w move p (Takes m)
+        pub decide-takes : r .number ≡ 0 → Decides shop P move p (Takes m)
         decide-takes z = record {
           inside = inside;
           known = read-known shop move actions methods a b reading reads e;
-          room = leaves-room (domain shop) s (goalAt w p .formula) (length w) m (asked ∙ z);
+          room = rw (look .size) (own-room shop order s (seen .goal .rows) count 0 p P faces m (own-told shop 0 p P m (refusalOf r) (said 0 P p faces) .0 z));
           comes = λ n.
-              step-body (domain shop) n s w move p inside m (move-is ∙ ap readOf e) (goal-free f)
-              ∙ takes-it (domain shop) n s w p inside m (asked ∙ z);
+              own-takes (rulesOf shop) n P move p inside m (move-is ∙ ap readOf e) (goal-free f)
+              (own-told shop n p P m (refusalOf r) (said n P p faces) .0 z);
         }
 
-        pub decide-refuses : (q ≡ 0 → ⊥) → Decides shop s w move p (Refused q)
+        pub decide-refuses : (r .number ≡ 0 → ⊥) → Decides shop P move p (Refused r)
         decide-refuses z n =
-            step-body (domain shop) n s w move p inside m (move-is ∙ ap readOf e) (goal-free f)
-            ∙ refuses-it (domain shop) n s w p inside m q asked z
-            ∙ ap (λ (v : Bool). refused (cond v (cond (anyFree w) 28 27) q))
-            (sym (ne-eqb q 28 (λ t. never-28 (domain shop) s (goalAt w p .formula) (length w) m (asked ∙ t))))
+            let t = own-told shop n p P m (refusalOf r) (said n P p faces) .1 z in
+            own-refuses (rulesOf shop) n P move p inside m (move-is ∙ ap readOf e) (goal-free f) (refusalOf r) (t .0)
+            ∙ ap (λ (v : Bool). refused (cond v (cond (anyFree (P .waiting)) (refusalOf r) ((27 asks false) .refusal)) (refusalOf r)))
+            (sym (ne-eqb (r .number) 28 (λ y. let o = t .1 in omega arith)))
 
 -- A move's own questions, by its cases.
 module _ {shop order endTable startTable : List ℕ} (ix : Indexed shop order endTable startTable) (s : State) (goal : Span) (count : ℕ) where
-  pub question-release : {m : Move} {holds v : Bool} → m ≡ Release → holds ≡ formulaHolds s (nodeOf (spanRows shop order goal) .formula) → holds ≡ v
-      → cond v 0 29 ≡ questionOf (domain shop) s (nodeOf (spanRows shop order goal) .formula) count (knownOf m)
-  unfolding questionOf
-  question-release e said v = rw e (ap (λ (b : Bool). cond b 0 29) (sym v ∙ said))
+  pub of-release : {m : Move} {r : Refusal} → m ≡ Release → Answers shop order s goal count Run.release r → Answers shop order s goal count (knownOf m) r
+  of-release e said = rw e said
 
-  pub question-action : {m : Move} {k q : ℕ} → Known (actionCount shop) (methodCount shop) m → m ≡ Act k
-      → q ≡ actionQuestion shop order s (record { sheet = Of.Shop; from = getD startTable (k - 1) 0; to = getD startTable k 0 }) goal
-      → q ≡ questionOf (domain shop) s (nodeOf (spanRows shop order goal) .formula) count (knownOf m)
-  unfolding questionOf Meaning.actionOf
-  question-action {k = k} known e said = let g = known-action ix known e in rw (e, action-rows ix k (g .0) (g .1)) said
+  pub of-action : {m : Move} {k : ℕ} {r : Refusal} → Known (actionCount shop) (methodCount shop) m → m ≡ Act k
+      → OfAction shop order s (record { sheet = Of.Shop; from = getD startTable (k - 1) 0; to = getD startTable k 0 }) goal r
+      → Answers shop order s goal count (knownOf m) r
+  of-action {k = k} known e said = let g = known-action ix known e in rw e (said k count (action-rows ix k (g .0) (g .1)))
 
-  pub question-method : {m : Move} {k q : ℕ} → m ≡ Use k → q ≡ questionOf (domain shop) s (nodeOf (spanRows shop order goal) .formula) count (Run.use-method k)
-      → q ≡ questionOf (domain shop) s (nodeOf (spanRows shop order goal) .formula) count (knownOf m)
-  question-method e said = rw e said
+  pub of-method : {m : Move} {k : ℕ} {r : Refusal} → m ≡ Use k → Answers shop order s goal count (Run.use-method k) r
+      → Answers shop order s goal count (knownOf m) r
+  of-method e said = rw e said
 
 -- A method's questions from its rows.
-module _ {shop order table : List ℕ} {m from to first : ℕ} (a : MethodAt shop order table m from to first) where
-  module _ (s : State) (f : Formula) (count : ℕ) {able v : Bool}
-      (needs : able ≡ allHold s (literals 3 4 (spanRows shop order (record { sheet = Of.Shop; from = from; to = first })))) (is : able ≡ v) where
-    asked-needs : v ≡ allHold s (methodAt (domain shop) m .needs)
-    asked-needs = sym is ∙ needs ∙ ap (allHold s) (a .needs)
+module _ {shop order table : List ℕ} {m from to first : ℕ} (a : MethodAt shop order table m from to first) (s : State) (goal : Span) (count : ℕ)
+    (r : Refusal) {able v : Bool}
+    (needs : able ≡ allHold s (literals 3 4 (spanRows shop order (record { sheet = Of.Shop; from = from; to = first })))) (is : able ≡ v) where
+  asked-needs : allHold s (methodAt (domain shop) m .needs) ≡ v
+  asked-needs = sym (sym is ∙ needs ∙ ap (allHold s) (a .needs))
 
-    pub method-unable : v ≡ false → 30 ≡ questionOf (domain shop) s f count (Run.use-method m)
-    unfolding questionOf
-    method-unable e = rw (← asked-needs, e)
+  pub method-unable : v ≡ false → refusalOf r ≡ (30 asks false) .refusal → Answers shop order s goal count (Run.use-method m) r
+  method-unable e z n P p f = z ∙ sym (ap told (use-30 shop order s goal count n p P f m (asked-needs ∙ e)))
 
-    module _ (yes : v ≡ true) (nodes : Nodes) (counted : (bs : List Bounds) → Walk table to first bs → Counted to bs nodes) {helps u : Bool}
-        (said : helps ≡ relevant (literals 9 10 (spanRows shop order (record { sheet = Of.Shop; from = nodes .last; to = to }))) f) (tells : helps ≡ u) where
-      asked-goal : u ≡ relevant (goalOf (methodAt (domain shop) m)) f
-      asked-goal =
-          let i = counted (a .bs) (a .walk) .last-is (λ z. absurd (omega (arith, a .some))) in
-          sym tells ∙ said ∙ ap (λ l. relevant l f) (sym (a .goal (i .0) (nodes .last) (i .1)))
+  module _ (yes : v ≡ true) (nodes : Nodes) (counted : (bs : List Bounds) → Walk table to first bs → Counted to bs nodes) {helps u : Bool}
+      (said : helps ≡ relevant (literals 9 10 (spanRows shop order (record { sheet = Of.Shop; from = nodes .last; to = to }))) (nodeOf (spanRows shop order goal) .formula))
+      (tells : helps ≡ u) where
+    asked-goal : relevant (goalOf (methodAt (domain shop) m)) (nodeOf (spanRows shop order goal) .formula) ≡ u
+    asked-goal =
+        let i = counted (a .bs) (a .walk) .last-is (λ z. absurd (omega (arith, a .some))) in
+        sym (sym tells ∙ said ∙ ap (λ l. relevant l (nodeOf (spanRows shop order goal) .formula)) (sym (a .goal (i .0) (nodes .last) (i .1))))
 
-      pub method-irrelevant : u ≡ false → 31 ≡ questionOf (domain shop) s f count (Run.use-method m)
-      unfolding questionOf
-      method-irrelevant e = rw (← asked-needs, yes, ← asked-goal, e)
+    pub method-irrelevant : u ≡ false → refusalOf r ≡ (31 asks false) .refusal → Answers shop order s goal count (Run.use-method m) r
+    method-irrelevant e z n P p f = z ∙ sym (ap told (use-31 shop order s goal count n p P f m (asked-needs ∙ yes) (asked-goal ∙ e)))
 
-      size : count + length (networkOf (methodAt (domain shop) m)) ≡ count + nodes .count
-      size = ap (λ (k : ℕ). count + k) (method-size a ∙ sym (counted (a .bs) (a .walk) .number))
+    size : length (networkOf (methodAt (domain shop) m)) ≡ nodes .count
+    size = method-size a ∙ sym (counted (a .bs) (a .walk) .number)
 
-      pub method-may : u ≡ true → count + nodes .count ≤ 64 → 0 ≡ questionOf (domain shop) s f count (Run.use-method m)
-      unfolding questionOf
-      method-may e h = rw (← asked-needs, yes, ← asked-goal, e, size, le-leb _ 64 h)
+    pub method-may : u ≡ true → count + nodes .count ≤ 64 → refusalOf r ≡ told passed → Answers shop order s goal count (Run.use-method m) r
+    method-may e h z n P p f =
+        z ∙ sym (ap told (use-passed shop order s goal count n p P f m (asked-needs ∙ yes) (asked-goal ∙ e) (omega (arith, size))))
 
-      pub method-crowded : u ≡ true → 64 < count + nodes .count → 32 ≡ questionOf (domain shop) s f count (Run.use-method m)
-      unfolding questionOf
-      method-crowded e h = rw (← asked-needs, yes, ← asked-goal, e, size, lt-leb _ 64 h)
+    pub method-crowded : u ≡ true → 64 < count + nodes .count → refusalOf r ≡ (32 asks false) .refusal → Answers shop order s goal count (Run.use-method m) r
+    method-crowded e h z n P p f =
+        z ∙ sym (ap told (use-32 shop order s goal count n p P f m (asked-needs ∙ yes) (asked-goal ∙ e) (omega (arith, size))))
 
 -- An action's effects from its rows.
 pub effects-are : {shop order endTable startTable : List ℕ} → Indexed shop order endTable startTable → (k : ℕ) → 1 ≤ k → k ≤ actionCount shop
@@ -256,13 +183,14 @@ pub effects-are : {shop order endTable startTable : List ℕ} → Indexed shop o
 unfolding Meaning.actionOf
 effects-are ix k low high = ap (λ (x : Meaning.Action). x .effects) (sym (action-rows ix k low high))
 
--- What was seen in the code's list.
-pub seen-in : (shop order : List ℕ) (w : Waiting) → length (w .entries) ≡ 64 → w .count ≤ 64 → (p : ℕ) (seen : Seen) → Sees shop order w p seen
-    → SeenIn shop order (listOf shop order w) (w .count) p seen
-seen-in shop order w full few p seen sees = record {
-  size = list-length shop order w full few;
-  goal = λ h. goal-is shop order (entriesOf w) p (omega (arith, entries-length w full few)) ∙ ap (waitingOf shop order) (sym (sees .goal));
+-- What was seen in the code's record.
+pub seen-in : (shop order : List ℕ) (b : Code.Problem) → length (b .waiting .entries) ≡ 64 → b .waiting .count ≤ 64 → (p : ℕ) (seen : Seen)
+    → Sees shop order (b .waiting) p seen → SeenIn shop order (b .atoms) (b .waiting .count) seen (problemIn shop order b) p
+seen-in shop order b full few p seen sees = record {
+  state = refl;
+  size = list-length shop order (b .waiting) full few;
+  goal = λ h. goal-is shop order (entriesOf (b .waiting)) p (omega (arith, entries-length (b .waiting) full few)) ∙ ap (waitingOf shop order) (sym (sees .goal));
   free-is = λ h.
       sees .free
-      ∙ ap (free (listOf shop order w)) (sym (goal-is shop order (entriesOf w) p (omega (arith, entries-length w full few))));
+      ∙ ap (free (listOf shop order (b .waiting))) (sym (goal-is shop order (entriesOf (b .waiting)) p (omega (arith, entries-length (b .waiting) full few))));
 }

@@ -1,61 +1,59 @@
--- What is decided of a step before anything changes, and what the move then comes to. Document 01, "Questions".
+-- What is decided of a step before anything changes. Document 01, "Questions".
 use Prim.Native.Nat.{ℕ, _+_, _<_, _≤_}
 use mathlib.Core.Path.{_≡_}
-use mathlib.Core.Bool.{cond}
-use mathlib.Core.List.{List, [], _∷_}
-use lib.Dec.{eqb, leb}
+use mathlib.Core.Bool.{false, cond}
+use mathlib.Core.List.{List}
+use lib.Dec.{eqb}
 use lib.ListN.{length}
-use Rattle.hgn.specs.Meaning.{Domain, Formula, literals, nodeOf, goalOf, networkOf}
-use Rattle.hgn.specs.State.{State, γ, allHold, formulaHolds, relevant}
+use Rattle.hgn.specs.Questions as Questions
+use Rattle.hgn.specs.Questions.{_asks_, firstNo, told}
+use Rattle.hgn.specs.Meaning as Meaning
+use Rattle.hgn.specs.Meaning.{Domain, nodeOf, networkOf}
+use Rattle.hgn.specs.State.{State}
 use Rattle.hgn.specs.Network as Network
-use Rattle.hgn.specs.Network.{mostWaiting, goalAt, free, anyFree, released, decomposed}
+use Rattle.hgn.specs.Network.{mostWaiting, goalAt, free, anyFree}
 use Rattle.hgn.specs.Run as Run
-use Rattle.hgn.specs.Run.{actionAt, methodAt, refused, taken, stepped}
+use Rattle.hgn.specs.Run.{Problem, actionAt, methodAt, ownQuestions, deedOf, moved, refused, taken, stepped}
 use Rattle.hgn.specs.Shop.{domain, actionCount, methodCount}
+use Rattle.hgn.specs.Replay.{rulesOf}
+use Rattle.reading.specs.Refusals.{refusalOf}
+use Rattle.reading.specs.declared.refusal.Refusal.{Refusal}
 use Rattle.spans.specs.declared.index.Span.{Span}
 use Rattle.formulas.specs.Spanned.{spanRows}
 use Rattle.network.specs.Entries.{waitingOf}
-use Rattle.steps.specs.Moves.{Known}
+use Rattle.steps.specs.Moves.{Known, knownOf}
 use Rattle.freeness.specs.declared.free.Seen.{Seen}
 use Rattle.steps.specs.declared.moves.Move.{Move}
 use Rattle.steps.specs.declared.moves.Move.the-variants.{Release, Act, Use}
 use Rattle.steps.specs.declared.questions.Decision.{Decision}
 use Rattle.steps.specs.declared.questions.Decision.the-variants.{Refused, Takes}
 
--- 30 and 31 of an action with these rows, at a goal with those; 0 where both are answered yes.
-abbrev pub actionQuestion : List ℕ → List ℕ → State → Span → Span → ℕ
-actionQuestion shop order s rows goal =
-    cond (allHold s (literals 3 4 (spanRows shop order rows)))
-    (cond (relevant (literals 5 6 (spanRows shop order rows)) (nodeOf (spanRows shop order goal) .formula)) 0 31)
-    30
+-- The problem has this state, so many goals wait in it, and the goal at place `p` has these rows.
+pub record Faces (shop order : List ℕ) (s : State) (goal : Span) (count : ℕ) (P : Problem) (p : ℕ) : Type 0 where
+  pub state : P .state ≡ s
+  pub formula : goalAt (P .waiting) p .formula ≡ nodeOf (spanRows shop order goal) .formula
+  pub size : length (P .waiting) ≡ count
 
--- A move's own questions, at a goal with this formula, with so many waiting.
-unfoldable pub questionOf : Domain → State → Formula → ℕ → Run.Move → ℕ
-questionOf d s f count Run.unknown = 26
-questionOf d s f count Run.release = cond (formulaHolds s f) 0 29
-questionOf d s f count (Run.act k) = cond (allHold s (actionAt d k .needs)) (cond (relevant (actionAt d k .effects) f) 0 31) 30
-questionOf d s f count (Run.use-method m) =
-    cond (allHold s (methodAt d m .needs))
-    (cond (relevant (goalOf (methodAt d m)) f)
-    (cond (leb (count + length (networkOf (methodAt d m))) mostWaiting) 0 32)
-    31)
-    30
+-- In whatever step, of whatever problem that is so, the first no of the move's own questions is told.
+abbrev pub Answers : List ℕ → List ℕ → State → Span → ℕ → Run.Move → Refusal → Type 0
+Answers shop order s goal count m r = (n : ℕ) (P : Problem) (p : ℕ) → Faces shop order s goal count P p
+    → refusalOf r ≡ told (firstNo (ownQuestions (rulesOf shop) n P p m))
+
+-- The same of the action with these rows, whatever its number.
+abbrev pub OfAction : List ℕ → List ℕ → State → Span → Span → Refusal → Type 0
+OfAction shop order s rows goal r = (k count : ℕ) → actionAt (domain shop) k ≡ Meaning.actionOf (spanRows shop order rows)
+    → Answers shop order s goal count (Run.act k) r
 
 -- 27 for 28 where no waiting goal is free.
-abbrev pub toldOf : List Network.Waiting → ℕ → ℕ
-toldOf w q = cond (eqb q 28) (cond (anyFree w) 28 27) q
+abbrev pub toldOf : List Network.Waiting → Questions.Refusal → Questions.Refusal
+toldOf w q = cond (eqb (q .number) 28) (cond (anyFree w) q ((27 asks false) .refusal)) q
 
--- What was seen at a place of a list of so many goals.
-pub record SeenIn (shop order : List ℕ) (w : List Network.Waiting) (count p : ℕ) (seen : Seen) : Type 0 where
-  pub size : length w ≡ count
-  pub goal : p < count → goalAt w p ≡ waitingOf shop order (seen .goal)
-  pub free-is : p < count → seen .free ≡ free w (goalAt w p)
-
--- What a move comes to that may be taken.
-abbrev pub carried : Domain → ℕ → State → List Network.Waiting → ℕ → Move → Run.Stepped
-carried d n s w p Release = taken [] s (released w p)
-carried d n s w p (Act k) = taken (k ∷ []) (γ s (actionAt d k .effects)) w
-carried d n s w p (Use m) = taken [] s (decomposed w p n (networkOf (methodAt d m)))
+-- What was seen at a place of a problem with this state and so many goals.
+pub record SeenIn (shop order : List ℕ) (s : State) (count : ℕ) (seen : Seen) (P : Problem) (p : ℕ) : Type 0 where
+  pub state : P .state ≡ s
+  pub size : length (P .waiting) ≡ count
+  pub goal : p < count → goalAt (P .waiting) p ≡ waitingOf shop order (seen .goal)
+  pub free-is : p < count → seen .free ≡ free (P .waiting) (goalAt (P .waiting) p)
 
 -- A method leaves at most 64 waiting.
 abbrev pub Room : Domain → ℕ → Move → Type 0
@@ -63,14 +61,15 @@ Room d count Release = Unit {0}
 Room d count (Act k) = Unit {0}
 Room d count (Use m) = count + length (networkOf (methodAt d m)) ≤ mostWaiting
 
-pub record Taking (shop : List ℕ) (s : State) (w : List Network.Waiting) (move p : ℕ) (m : Move) : Type 0 where
-  pub inside : p < length w
+pub record Taking (shop : List ℕ) (P : Problem) (move p : ℕ) (m : Move) : Type 0 where
+  pub inside : p < length (P .waiting)
   pub known : Known (actionCount shop) (methodCount shop) m
-  pub room : Room (domain shop) (length w) m
-  pub comes : (n : ℕ) → stepped mostWaiting (domain shop) n s w (record { move = move; place = p }) ≡ carried (domain shop) n s w p m
+  pub room : Room (domain shop) (length (P .waiting)) m
+  pub comes : (n : ℕ) → stepped (rulesOf shop) n P (record { move = move; place = p })
+      ≡ taken (deedOf P p (knownOf m)) (moved (domain shop) n P p (knownOf m))
 
 -- The step comes to what was decided, at whatever number.
-abbrev pub Decides : List ℕ → State → List Network.Waiting → ℕ → ℕ → Decision → Type 0
-Decides shop s w move p (Refused q) =
-    (n : ℕ) → stepped mostWaiting (domain shop) n s w (record { move = move; place = p }) ≡ refused (toldOf w q)
-Decides shop s w move p (Takes m) = Taking shop s w move p m
+abbrev pub Decides : List ℕ → Problem → ℕ → ℕ → Decision → Type 0
+Decides shop P move p (Refused q) =
+    (n : ℕ) → stepped (rulesOf shop) n P (record { move = move; place = p }) ≡ refused (toldOf (P .waiting) (refusalOf q))
+Decides shop P move p (Takes m) = Taking shop P move p m

@@ -2,13 +2,16 @@
 use formulas::state;
 use network::waiting::Waiting;
 use reading::position::Sheet;
+use reading::refusal::Refusal;
 use reading::tag;
 use spans::index;
 use spans::index::Span;
 ghost use mathlib.Core.Path.{_≡_};
 ghost use mathlib.Core.List.{List};
 ghost use Prim.Native.Nat.{ℕ, _≤_};
+ghost use Rattle.hgn.specs.Questions.{passed, told};
 ghost use Rattle.hgn.specs.Meaning.{literals};
+ghost use Rattle.reading.specs.Refusals.{refusalOf};
 ghost use Rattle.hgn.specs.State.{γ};
 ghost use Rattle.hgn.specs.Run.{actionAt};
 ghost use Rattle.hgn.specs.Shop.{domain, actionCount};
@@ -20,35 +23,32 @@ pub struct Problem {
     pub waiting: Waiting,
 }
 
-// What a step comes to: 0, the next record and the action done, 0 for none; or the number of the first question that fails and the
-// record as it was.
+// What a step comes to: no refusal and the next record; or the first question that fails and the record as it was.
 pub struct Stepped {
-    pub number: u16,
+    pub refusal: Refusal,
     pub problem: Problem,
-    pub action: u16,
 }
 
 impl Stepped {
-    pub fn taken(atoms: [bool; 256], waiting: Waiting, action: u16) -> Stepped
-        ensures { λ r. ⌜ r ≡ record { number = 0; problem = record { atoms = atoms; waiting = waiting }; action = action } ⌝ }
+    pub fn taken(atoms: [bool; 256], waiting: Waiting) -> Stepped
+        ensures { λ r. ⌜ (refusalOf (r .refusal) ≡ told passed) × (r .problem ≡ record { atoms = atoms; waiting = waiting }) ⌝ }
     {
+        let refusal = Refusal::none();
         Stepped {
-            number: 0,
+            refusal: refusal,
             problem: Problem {
                 atoms: atoms,
                 waiting: waiting,
             },
-            action: action,
         }
     }
 
-    pub fn refused(number: u16, problem: Problem) -> Stepped
-        ensures { λ r. ⌜ (r .number ≡ number) × (r .problem ≡ problem) × (r .action ≡ 0) ⌝ }
+    pub fn refused(refusal: Refusal, problem: Problem) -> Stepped
+        ensures { λ r. ⌜ (r .refusal ≡ refusal) × (r .problem ≡ problem) ⌝ }
     {
         Stepped {
-            number: number,
+            refusal: refusal,
             problem: problem,
-            action: 0,
         }
     }
 }

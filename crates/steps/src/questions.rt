@@ -8,25 +8,24 @@ use network::enter;
 use network::waiting::Place;
 use network::waiting::Waiting;
 use reading::position::Sheet;
+use reading::refusal::Refusal;
 use reading::tag;
 use scan::rows::word;
 use spans::index::Span;
 ghost use mathlib.Core.Path.{_≡_};
-ghost use mathlib.Core.List.{List};
 ghost use Prim.Native.Nat.{_≤_, _<_};
-ghost use Rattle.hgn.specs.Meaning.{nodeOf};
-ghost use Rattle.hgn.specs.Network as Network;
 ghost use Rattle.hgn.specs.Run as Run;
-ghost use Rattle.hgn.specs.Shop.{domain, actionCount, methodCount};
-ghost use Rattle.formulas.specs.Spanned.{spanRows};
+ghost use Rattle.hgn.specs.Run.{Problem};
+ghost use Rattle.hgn.specs.Shop.{actionCount, methodCount};
+ghost use Rattle.reading.specs.Refusals.{refusalOf};
 ghost use Rattle.network.specs.Entries.{listOf};
 ghost use Rattle.steps.specs.Moves.{Known, knownOf};
 ghost use Rattle.network.specs.Tables.{Indexed};
-ghost use Rattle.steps.specs.Deciding.{actionQuestion, questionOf, toldOf, SeenIn, Decides};
+ghost use Rattle.steps.specs.Deciding.{OfAction, Answers, toldOf, SeenIn, Decides};
 
-// The number of the first question that fails, or the move that may be taken.
+// The first question that fails, or the move that may be taken.
 pub enum Decision {
-    Refused(u16),
+    Refused(Refusal),
     Takes(Move),
 }
 
@@ -37,16 +36,16 @@ fn of_action<'a>(
     atoms: &[bool; 256],
     rows: Span,
     goal: Span,
-) -> u16
-    ensures { λ r. ⌜ r ≡ actionQuestion (now (shop .entry)) (now (order .entry)) (now (atoms .entry)) rows goal ⌝ }
+) -> Refusal
+    ensures { λ r. ⌜ OfAction (now (shop .entry)) (now (order .entry)) (now (atoms .entry)) rows goal r ⌝ }
 {
     if parts::needs_hold(atoms, shop, order, rows) {
         if parts::helps(shop, order, rows, tag::MAKES_TRUE, tag::MAKES_FALSE, goal) {
-            return 0;
+            return Refusal::none();
         }
-        return 31;
+        return Refusal::by(31);
     }
-    30
+    Refusal::by(30)
 }
 
 // Of a method, at a goal with these rows, with so many waiting: needs hold? 30. Relevant? 31. At most 64 waiting afterwards? 32.
@@ -59,10 +58,10 @@ fn of_method<'a>(
     method: u16,
     goal: Span,
     count: u16,
-) -> u16
+) -> Refusal
     requires { ⌜ Indexed (now shop) (now order) (now ends) (now starts) ⌝ }
     requires { ⌜ (method < methodCount (now shop)) × (count ≤ 64) ⌝ }
-    ensures { λ r. ⌜ r ≡ questionOf (domain (now (shop .entry))) (now (atoms .entry)) (nodeOf (spanRows (now (shop .entry)) (now (order .entry)) goal) .formula) count (Run.use-method method) ⌝ }
+    ensures { λ r. ⌜ Answers (now (shop .entry)) (now (order .entry)) (now (atoms .entry)) goal count (Run.use-method method) r ⌝ }
 {
     let block = word(shop, 1) as usize + method as usize;
     let from = starts[block];
@@ -83,16 +82,16 @@ fn of_method<'a>(
         };
         if parts::helps(shop, order, last, tag::WANTED_TRUE, tag::WANTED_FALSE, goal) {
             if count + nodes.count <= Waiting::MOST {
-                return 0;
+                return Refusal::none();
             }
-            return 32;
+            return Refusal::by(32);
         }
-        return 31;
+        return Refusal::by(31);
     }
-    30
+    Refusal::by(30)
 }
 
-// A move's own questions, at a goal with these rows, with so many waiting; 0 where none fails. For a release, does it hold? 29.
+// A move's own questions, at a goal with these rows, with so many waiting. For a release, does it hold? 29.
 pub fn of_move<'a>(
     shop: &'a [u16],
     order: &'a [u16],
@@ -102,17 +101,17 @@ pub fn of_move<'a>(
     known: Move,
     goal: Span,
     count: u16,
-) -> u16
+) -> Refusal
     requires { ⌜ Indexed (now shop) (now order) (now ends) (now starts) ⌝ }
     requires { ⌜ Known (actionCount (now shop)) (methodCount (now shop)) known × (count ≤ 64) ⌝ }
-    ensures { λ r. ⌜ r ≡ questionOf (domain (now (shop .entry))) (now (atoms .entry)) (nodeOf (spanRows (now (shop .entry)) (now (order .entry)) goal) .formula) count (knownOf known) ⌝ }
+    ensures { λ r. ⌜ Answers (now (shop .entry)) (now (order .entry)) (now (atoms .entry)) goal count (knownOf known) r ⌝ }
 {
     match known {
         Move::Release => {
             if parts::goal_holds(atoms, shop, order, goal) {
-                return 0;
+                return Refusal::none();
             }
-            29
+            Refusal::by(29)
         }
         Move::Act(action) => {
             let at = action as usize;
@@ -143,38 +142,38 @@ pub fn decide<'a>(
     place: Place,
 ) -> Decision
     requires { ⌜ Indexed (now shop) (now order) (now ends) (now starts) × (count ≤ 64) ⌝ }
-    ensures { λ r. ⌜ ((w : List Network.Waiting) → SeenIn (now (shop .entry)) (now (order .entry)) w count (place .0) seen → Decides (now (shop .entry)) (now (atoms .entry)) w mv (place .0) r) ⌝ }
+    ensures { λ r. ⌜ ((P : Problem) → SeenIn (now (shop .entry)) (now (order .entry)) (now (atoms .entry)) count seen P (place .0) → Decides (now (shop .entry)) P mv (place .0) r) ⌝ }
 {
     if place.0 < count {
         let actions = word(shop, 1);
         let methods = word(shop, 2);
         let reading = Move::read(mv, actions, methods);
         let Read::Is(known) = reading else {
-            return Decision::Refused(26);
+            return Decision::Refused(Refusal::by(26));
         };
         if seen.free {
             let goal = seen.goal;
-            let question = of_move(shop, order, ends, starts, atoms, known, goal.rows, count);
-            if question == 0 {
+            let refusal = of_move(shop, order, ends, starts, atoms, known, goal.rows, count);
+            if refusal.number == 0 {
                 return Decision::Takes(known);
             }
-            return Decision::Refused(question);
+            return Decision::Refused(refusal);
         }
-        return Decision::Refused(28);
+        return Decision::Refused(Refusal::by(28));
     }
-    Decision::Refused(25)
+    Decision::Refused(Refusal::by(25))
 }
 
-// The number of a refusal: 27 for 28 where no waiting goal is free.
-pub fn told<'a>(shop: &'a [u16], order: &'a [u16], waiting: Waiting, number: u16) -> u16
+// What is told of a refusal: 27 for 28 where no waiting goal is free.
+pub fn told<'a>(shop: &'a [u16], order: &'a [u16], waiting: Waiting, refusal: Refusal) -> Refusal
     requires { ⌜ waiting .count ≤ 64 ⌝ }
-    ensures { λ r. ⌜ r ≡ toldOf (listOf (now (shop .entry)) (now (order .entry)) waiting) number ⌝ }
+    ensures { λ r. ⌜ refusalOf r ≡ toldOf (listOf (now (shop .entry)) (now (order .entry)) waiting) (refusalOf refusal) ⌝ }
 {
-    if number == 28 {
+    if refusal.number == 28 {
         if free::any_free(shop, order, waiting) {
-            return 28;
+            return refusal;
         }
-        return 27;
+        return Refusal::by(27);
     }
-    number
+    refusal
 }

@@ -10,14 +10,14 @@ use network::waiting::Name;
 use network::waiting::Place;
 ghost use mathlib.Core.Path.{_≡_};
 ghost use Prim.Native.Nat.{_≤_, _<_};
-ghost use Rattle.hgn.specs.Run as Run;
+ghost use Rattle.hgn.specs.Run.{stepped};
 ghost use Rattle.hgn.specs.Shop.{domain, actionCount, methodCount};
-ghost use Rattle.hgn.specs.Network.{mostWaiting};
-ghost use Rattle.network.specs.Entries.{listOf, entryAt};
-ghost use Rattle.steps.specs.Steps.{Stepped as Is, ifFree};
+ghost use Rattle.hgn.specs.Replay.{rulesOf};
+ghost use Rattle.network.specs.Entries.{entryAt};
+ghost use Rattle.steps.specs.Steps.{problemIn, Applied, Asked, Is};
 ghost use Rattle.network.specs.Tables.{Indexed};
 ghost use Rattle.steps.specs.Moves.{Known, knownOf};
-ghost use Rattle.steps.specs.Deciding.{carried, Room};
+ghost use Rattle.steps.specs.Deciding.{Room};
 
 // The move at a place whose goal has this name, where every question was answered yes.
 fn taken<'a>(
@@ -34,22 +34,22 @@ fn taken<'a>(
     requires { ⌜ Indexed (now shop) (now order) (now ends) (now starts) ⌝ }
     requires { ⌜ (place .0 < problem .waiting .count) × (problem .waiting .count ≤ 64) × (name ≡ entryAt (problem .waiting) (place .0) .name) ⌝ }
     requires { ⌜ Known (actionCount (now shop)) (methodCount (now shop)) known × (number < 65535) × Room (domain (now shop)) (problem .waiting .count) known ⌝ }
-    ensures { λ r. ⌜ Is (carried (domain (now (shop .entry))) number (problem .atoms) (listOf (now (shop .entry)) (now (order .entry)) (problem .waiting)) (place .0) known) (now (shop .entry)) (now (order .entry)) problem r ⌝ }
+    ensures { λ r. ⌜ Applied (now (shop .entry)) (now (order .entry)) number (place .0) (knownOf known) problem r ⌝ }
 {
     let mut atoms = problem.atoms;
     let waiting = problem.waiting;
     match known {
         Move::Release => {
             let next = waiting.released(place);
-            Stepped::taken(atoms, next, 0)
+            Stepped::taken(atoms, next)
         }
         Move::Act(action) => {
             problem::act(&mut atoms, shop, order, starts, action);
-            Stepped::taken(atoms, waiting, action)
+            Stepped::taken(atoms, waiting)
         }
         Move::Use(method) => {
             let next = waiting.decomposed(shop, ends, starts, number, method, name, place);
-            Stepped::taken(atoms, next, 0)
+            Stepped::taken(atoms, next)
         }
     }
 }
@@ -68,12 +68,12 @@ pub fn take_move<'a>(
     requires { ⌜ Indexed (now shop) (now order) (now ends) (now starts) ⌝ }
     requires { ⌜ (place .0 < problem .waiting .count) × (problem .waiting .count ≤ 64) ⌝ }
     requires { ⌜ Known (actionCount (now shop)) (methodCount (now shop)) known × (number < 65535) ⌝ }
-    ensures { λ r. ⌜ Is (ifFree (domain (now (shop .entry))) number (problem .atoms) (listOf (now (shop .entry)) (now (order .entry)) (problem .waiting)) (place .0) (knownOf known)) (now (shop .entry)) (now (order .entry)) problem r ⌝ }
+    ensures { λ r. ⌜ Asked (now (shop .entry)) (now (order .entry)) number (place .0) (knownOf known) problem r ⌝ }
 {
     let atoms = problem.atoms;
     let waiting = problem.waiting;
     let goal = waiting.goal(place);
-    let question = questions::of_move(
+    let refusal = questions::of_move(
         shop,
         order,
         ends,
@@ -83,7 +83,7 @@ pub fn take_move<'a>(
         goal.rows,
         waiting.count,
     );
-    if question == 0 {
+    if refusal.number == 0 {
         return taken(
             shop,
             order,
@@ -96,7 +96,7 @@ pub fn take_move<'a>(
             place,
         );
     }
-    Stepped::refused(question, problem)
+    Stepped::refused(refusal, problem)
 }
 
 // The questions 25 to 32 in their order, then the move.
@@ -112,7 +112,7 @@ pub fn step<'a>(
 ) -> Stepped
     requires { ⌜ Indexed (now shop) (now order) (now ends) (now starts) ⌝ }
     requires { ⌜ (problem .waiting .count ≤ 64) × (number < 65535) ⌝ }
-    ensures { λ r. ⌜ Is (Run.stepped mostWaiting (domain (now (shop .entry))) number (problem .atoms) (listOf (now (shop .entry)) (now (order .entry)) (problem .waiting)) (record { move = mv; place = place .0 })) (now (shop .entry)) (now (order .entry)) problem r ⌝ }
+    ensures { λ r. ⌜ Is (now (shop .entry)) (now (order .entry)) (stepped (rulesOf (now (shop .entry))) number (problemIn (now (shop .entry)) (now (order .entry)) problem) (record { move = mv; place = place .0 })) problem r ⌝ }
 {
     let atoms = problem.atoms;
     let waiting = problem.waiting;
@@ -129,8 +129,8 @@ pub fn step<'a>(
         place,
     );
     match decision {
-        Decision::Refused(question) => {
-            let told = questions::told(shop, order, waiting, question);
+        Decision::Refused(refusal) => {
+            let told = questions::told(shop, order, waiting, refusal);
             Stepped::refused(told, problem)
         }
         Decision::Takes(known) => {

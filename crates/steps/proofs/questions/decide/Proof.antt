@@ -18,10 +18,11 @@ decide-spec =
     (λ c κs. search needs)
     (λ c. search needs)
     (λ c. search needs)
-    (λ c w l.
-    let r = c .before .before in
-    decide-unknown (start r .pre .0) _ _ _ _ _ w l (r .before .before .before .if1 .taken) (r .before .before .word .ensures) (r .before .word2 .ensures) (r .read .result) (r .read .ensures)
-    (c .enum-told .given .1))
+    (λ c κs. search needs)
+    (λ c P l.
+    let r = c .before .before .before in
+    decide-unknown (start r .pre .0) _ _ _ _ _ P l (r .before .before .before .if1 .taken) (r .before .before .word .ensures) (r .before .word2 .ensures) (r .read .result) (r .read .ensures)
+    (c .before .enum-told .given .1) _ (c .by .ensures))
     (λ c κs.
     let r = c .before .before .before .before .before in (
       start r .pre .0,
@@ -30,16 +31,18 @@ decide-spec =
         start r .pre .1,
       ),
     ))
-    (λ c w l.
-    let r = c .before .before .before .before .before .before .before in
-    decide-takes (start r .pre .0) _ _ _ _ _ w l (r .before .before .before .if1 .taken) (r .before .before .word .ensures) (r .before .word2 .ensures) (r .read .result) (r .read .ensures)
-    (c .before .before .before .before .before .reading .given .1) (c .before .before .before .if2 .taken) (c .before .of-move .ensures) (c .if3 .taken))
-    (λ c w l.
-    let r = c .before .before .before .before .before .before .before in
-    decide-refuses (start r .pre .0) _ _ _ _ _ w l (r .before .before .before .if1 .taken) (r .before .before .word .ensures) (r .before .word2 .ensures) (r .read .result) (r .read .ensures)
-    (c .before .before .before .before .before .reading .given .1) (c .before .before .before .if2 .taken) (c .before .of-move .ensures) (c .if3 .left))
-    (λ c w l.
-    let r = c .before .before .before .before in
-    decide-held (start r .pre .0) _ _ _ _ _ w l (r .before .before .before .if1 .taken) (r .before .before .word .ensures) (r .before .word2 .ensures) (r .read .result) (r .read .ensures)
-    (c .before .before .reading .given .1) (c .if2 .left))
-    (λ c w l. decide-past (c .before .before .before .before .before .before .pre .0) _ _ _ _ _ w l (c .if1 .left)))
+    (λ c P l.
+    let r = c .before .before .before .before .before .before .before .before in
+    decide-takes (start r .pre .0) _ _ _ _ _ P l (r .before .before .before .if1 .taken) (r .before .before .word .ensures) (r .before .word2 .ensures) (r .read .result) (r .read .ensures)
+    (c .before .before .before .before .before .before .reading .given .1) (c .before .before .before .before .if2 .taken) (c .before .before .of-move .ensures) (c .if3 .taken))
+    (λ c P l.
+    let r = c .before .before .before .before .before .before .before .before in
+    decide-refuses (start r .pre .0) _ _ _ _ _ P l (r .before .before .before .if1 .taken) (r .before .before .word .ensures) (r .before .word2 .ensures) (r .read .result) (r .read .ensures)
+    (c .before .before .before .before .before .before .reading .given .1) (c .before .before .before .before .if2 .taken) (c .before .before .of-move .ensures) (c .if3 .left))
+    (λ c κs. search needs)
+    (λ c P l.
+    let r = c .before .before .before .before .before in
+    decide-held (start r .pre .0) _ _ _ _ _ P l (r .before .before .before .if1 .taken) (r .before .before .word .ensures) (r .before .word2 .ensures) (r .read .result) (r .read .ensures)
+    (c .before .before .before .reading .given .1) (c .before .if2 .left) _ (c .by2 .ensures))
+    (λ c κs. search needs)
+    (λ c P l. decide-past (c .before .before .before .before .before .before .before .pre .0) _ _ _ _ _ P l (c .before .if1 .left) _ (c .by3 .ensures)))

@@ -33,19 +33,28 @@ of-method-spec =
     let s = c .before .before .before .before .before .before .before .before .before .before .before .before .before .before in
     let a = method-read (s .pre .0) _ (s .pre .1 .0) _ (c .before .before .before .before .before .before .before .before .before .word .ensures) in
     omega (arith, c .before .before .before .nodes-between .ensures (a .bs) (a .walk) .number, a .few))
+    (λ c κs. search needs)
     (λ c.
-    let s = c .before .before .before .before .before .before .before .before .before .before .before .before .before .before .before in
-    let a = method-read (s .pre .0) _ (s .pre .1 .0) _ (c .before .before .before .before .before .before .before .before .before .before .word .ensures) in
-    method-may a _ _ _ (c .before .before .before .before .before .before .needs-hold .ensures) (c .before .before .before .before .before .if1 .taken) refl _ (c .before .before .before .before .nodes-between .ensures) (c .before .before .before .helps .ensures) (c .before .before .if2 .taken) refl (c .if3 .taken))
+    let s = c .before .before .before .before .before .before .before .before .before .before .before .before .before .before .before .before in
+    let a = method-read (s .pre .0) _ (s .pre .1 .0) _ (c .before .before .before .before .before .before .before .before .before .before .before .word .ensures) in
+    method-may a _ _ _ _ (c .before .before .before .before .before .before .before .needs-hold .ensures) (c .before .before .before .before .before .before .if1 .taken) refl _
+    (c .before .before .before .before .before .nodes-between .ensures) (c .before .before .before .before .helps .ensures) (c .before .before .before .if2 .taken) refl (c .before .if3 .taken)
+    (c .none .ensures))
+    (λ c κs. search needs)
     (λ c.
-    let s = c .before .before .before .before .before .before .before .before .before .before .before .before .before .before .before in
-    let a = method-read (s .pre .0) _ (s .pre .1 .0) _ (c .before .before .before .before .before .before .before .before .before .before .word .ensures) in
-    method-crowded a _ _ _ (c .before .before .before .before .before .before .needs-hold .ensures) (c .before .before .before .before .before .if1 .taken) refl _ (c .before .before .before .before .nodes-between .ensures) (c .before .before .before .helps .ensures) (c .before .before .if2 .taken) refl (c .if3 .left))
+    let s = c .before .before .before .before .before .before .before .before .before .before .before .before .before .before .before .before in
+    let a = method-read (s .pre .0) _ (s .pre .1 .0) _ (c .before .before .before .before .before .before .before .before .before .before .before .word .ensures) in
+    method-crowded a _ _ _ _ (c .before .before .before .before .before .before .before .needs-hold .ensures) (c .before .before .before .before .before .before .if1 .taken) refl _
+    (c .before .before .before .before .before .nodes-between .ensures) (c .before .before .before .before .helps .ensures) (c .before .before .before .if2 .taken) refl (c .before .if3 .left)
+    (c .by .ensures))
+    (λ c κs. search needs)
     (λ c.
-    let s = c .before .before .before .before .before .before .before .before .before .before .before .before .before in
-    let a = method-read (s .pre .0) _ (s .pre .1 .0) _ (c .before .before .before .before .before .before .before .before .word .ensures) in
-    method-irrelevant a _ _ _ (c .before .before .before .before .needs-hold .ensures) (c .before .before .before .if1 .taken) refl _ (c .before .before .nodes-between .ensures) (c .before .helps .ensures) (c .if2 .left) refl)
+    let s = c .before .before .before .before .before .before .before .before .before .before .before .before .before .before in
+    let a = method-read (s .pre .0) _ (s .pre .1 .0) _ (c .before .before .before .before .before .before .before .before .before .word .ensures) in
+    method-irrelevant a _ _ _ _ (c .before .before .before .before .before .needs-hold .ensures) (c .before .before .before .before .if1 .taken) refl _
+    (c .before .before .before .nodes-between .ensures) (c .before .before .helps .ensures) (c .before .if2 .left) refl (c .by2 .ensures))
+    (λ c κs. search needs)
     (λ c.
-    let s = c .before .before .before .before .before .before .before .before .before .before in
-    let a = method-read (s .pre .0) _ (s .pre .1 .0) _ (c .before .before .before .before .before .word .ensures) in
-    method-unable a _ _ _ (c .before .needs-hold .ensures) (c .if1 .left) refl))
+    let s = c .before .before .before .before .before .before .before .before .before .before .before in
+    let a = method-read (s .pre .0) _ (s .pre .1 .0) _ (c .before .before .before .before .before .before .word .ensures) in
+    method-unable a _ _ _ _ (c .before .before .needs-hold .ensures) (c .before .if1 .left) refl (c .by3 .ensures)))

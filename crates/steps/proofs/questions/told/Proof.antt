@@ -1,4 +1,5 @@
 -- Assumes nothing.
+use mathlib.Core.Path.{_∙_}
 use borrow.Author.Needs.{needs}
 use borrow.Author.Tests.{eq-eqb, ne-eqb}
 use Rattle.reading.proofs.Laws.{told}
@@ -11,5 +12,6 @@ told-spec =
     (tie.spec
     (λ c κs. search needs)
     (λ c. rw (eq-eqb _ _ (c .before .before .if1 .taken), told (c .before .any-free .ensures) (c .if2 .taken)))
-    (λ c. rw (eq-eqb _ _ (c .before .before .if1 .taken), told (c .before .any-free .ensures) (c .if2 .left)))
+    (λ c κs. search needs)
+    (λ c. rw (eq-eqb _ _ (c .before .before .before .if1 .taken), told (c .before .before .any-free .ensures) (c .before .if2 .left)) (c .by .ensures))
     (λ c. rw (ne-eqb _ _ (c .if1 .left))))

@@ -6,7 +6,8 @@ use mathlib.Core.List.{List}
 use lib.ListN.{length, length-map}
 use borrow.Author.Needs.{needs}
 use Rattle.hgn.specs.Shop.{domain}
-use Rattle.network.specs.Entries.{listOf}
+use Rattle.steps.specs.Steps.{problemIn}
+use Rattle.reading.specs.Refusals.{refusalOf}
 use Rattle.steps.specs.Deciding.{SeenIn, Room, Taking, Decides}
 use Rattle.network.specs.declared.waiting.Entry.{Entry}
 use Rattle.steps.specs.declared.moves.Move.{Move}
@@ -34,14 +35,14 @@ module _ (v : tie.After-decide) where
   abbrev problem : Problem
   problem = start .args .problem
 
-  seen : SeenIn shop order (listOf shop order (problem .waiting)) (problem .waiting .count) (start .args .place .0) (v .before .before .look .result)
-  seen = seen-in shop order (problem .waiting) (full start) (start .pre .1 .0) _ _ (v .before .before .look .ensures)
+  seen : SeenIn shop order (problem .atoms) (problem .waiting .count) (v .before .before .look .result) (problemIn shop order problem) (start .args .place .0)
+  seen = seen-in shop order problem (full start) (start .pre .1 .0) _ _ (v .before .before .look .ensures)
 
-  decides : Decides shop (problem .atoms) (listOf shop order (problem .waiting)) (start .args .mv) (start .args .place .0) (v .decide .result)
+  decides : Decides shop (problemIn shop order problem) (start .args .mv) (start .args .place .0) (v .decide .result)
   decides = v .decide .ensures _ seen
 
   module _ (m : Move) (e : v .decide .result ≡ Takes m) where
-    takes : Taking shop (problem .atoms) (listOf shop order (problem .waiting)) (start .args .mv) (start .args .place .0) m
+    takes : Taking shop (problemIn shop order problem) (start .args .mv) (start .args .place .0) m
     takes = step-takes shop order (start .args .number) problem (start .pre .1 .0) _ _ _ decides e
 
     room : Room (domain shop) (problem .waiting .count) m
@@ -71,7 +72,7 @@ step-spec =
     (λ c.
     let v = c .before .before .before .before .before in
     step-refused _ _ _ _ (start v .pre .1 .0) _ _ _ (decides v) (c .before .before .before .decision .given .1)
-    (c .refused .ensures .0 ∙ c .before .told .ensures, c .refused .ensures .1, c .refused .ensures .2))
+    (ap refusalOf (c .refused .ensures .0) ∙ c .before .told .ensures, c .refused .ensures .1))
     (λ c.
     let v = c .before .before .before .before .before in
     step-taken _ _ _ _ (start v .pre .1 .0) _ _ _ (decides v) (c .before .before .before .decision2 .given .1) (c .taken .ensures)))

@@ -18,22 +18,22 @@ take-move-spec =
     (λ c κs. c .before .before .before .before .before .before .pre .1 .0 .1)
     (λ c κs. let s = c .before .before .before .before .before .before .before .before in (s .pre .0, (s .pre .1 .1 .0, s .pre .1 .0 .1)))
     (λ c κs.
-    let s = c .before .before .before .before .before .before .before .before .before .before in
-    let g = c .before .before .before .goal in (
+    let s = c .before .before .before .before .before .before .before .before .before .before .before in
+    let g = c .before .before .before .before .goal in (
       s .pre .0,
       (
         (s .pre .1 .0 .0, s .pre .1 .0 .1, ap (λ (x : Entry). x .name) (g .ensures)),
         (
           s .pre .1 .1 .0,
           s .pre .1 .1 .1,
-          move-room _ _ (s .args .number) _ (s .pre .1 .0 .1) _ (full s) (s .pre .1 .0 .0) _ (g .ensures) (s .args .known) (c .before .of-move .ensures) (c .if1 .taken),
+          move-room _ _ (s .args .number) _ (s .pre .1 .0 .1) _ (full s) (s .pre .1 .0 .0) _ (g .ensures) (s .args .known) (c .before .before .of-move .ensures) (c .if1 .taken),
         ),
       ),
     ))
     (λ c.
-    let s = c .before .before .before .before .before .before .before .before .before .before .before in
-    move-taken _ _ _ _ (s .pre .1 .0 .1) _ (full s) (s .pre .1 .0 .0) _ (c .before .before .before .before .goal .ensures) (s .args .known) (c .before .before .of-move .ensures) (c .before .if1 .taken) (c .taken .ensures))
+    let s = c .before .before .before .before .before .before .before .before .before .before .before .before in
+    move-taken _ _ _ _ (s .pre .1 .0 .1) _ (full s) (s .pre .1 .0 .0) _ (c .before .before .before .before .before .goal .ensures) (s .args .known) (c .before .before .before .of-move .ensures) (c .before .if1 .taken) (c .taken .ensures))
     (λ c κs. search needs)
     (λ c.
-    let s = c .before .before .before .before .before .before .before .before .before .before .before in
-    move-refused _ _ _ _ (s .pre .1 .0 .1) _ (full s) (s .pre .1 .0 .0) _ (c .before .before .before .before .goal .ensures) (s .args .known) (c .before .before .of-move .ensures) (c .before .if1 .left) (c .refused .ensures)))
+    let s = c .before .before .before .before .before .before .before .before .before .before .before .before in
+    move-refused _ _ _ _ (s .pre .1 .0 .1) _ (full s) (s .pre .1 .0 .0) _ (c .before .before .before .before .before .goal .ensures) (s .args .known) (c .before .before .before .of-move .ensures) (c .before .if1 .left) (c .refused .ensures)))

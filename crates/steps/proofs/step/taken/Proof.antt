@@ -37,7 +37,7 @@ taken-spec =
     (λ c.
     let s = c .before .before .before .before .before .before .before .before .before .before .before .before in
     let e = c .before .before .before .before .known .given .1 in
-    took-action _ _ _ _ (s .pre .1 .0 .1) _ e (known-action (s .pre .0) (s .pre .1 .1 .0) e .0) _ (c .before .act .ensures) (c .taken2 .ensures))
+    took-action _ _ _ _ (s .pre .1 .0 .1) _ e _ (c .before .act .ensures) (c .taken2 .ensures))
     (λ c.
     let s = c .before .before .before .before .before .before .before .before .before .before .before in
     took-method _ _ _ _ (s .pre .1 .0 .1) _ (c .before .before .before .known2 .given .1) _ (c .before .decomposed .ensures .0 (s .args .order .now) (s .pre .0)) (c .before .decomposed .ensures .1) (c .taken3 .ensures)))
