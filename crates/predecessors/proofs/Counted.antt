@@ -183,7 +183,7 @@ module _ {shop sheet ends starts : List ℕ} (i : Indexed shop sheet ends starts
       let passes = shop-of-order shop sheet (i .checked) in
       method-numbered shop passes _ (at-mem (at-of-lt (domain shop .methods) m noMethod (omega (arith, shop-counts shop passes .1))))
 
-  module _ (w : List Waiting) (p n : ℕ) (inside : p < length w) {w′ : List Waiting} (e : w′ ≡ decomposed w p n (networkOf (methodAt (domain shop) m))) where
+  module _ (w : List Waiting) (p n : ℕ) (inside : p < length w) {w′ : List Waiting} (e : w′ ≡ decomposed w p (step n) (networkOf (methodAt (domain shop) m))) where
     pub length-decomposed : length w′ ≡ length w + length (networkOf (methodAt (domain shop) m))
     unfolding decomposed
     length-decomposed = ap length e ∙ grown-length w p n _ inside

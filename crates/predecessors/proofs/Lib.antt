@@ -3,3 +3,4 @@ pub mod Afters
 pub mod Places
 pub mod Pending
 pub mod Counted
+pub mod Reaching

@@ -10,15 +10,13 @@ ghost use Prim.Native.Nat.{_<_, _≤_, _+_};
 ghost use lib.ListN.{length};
 ghost use Rattle.hgn.specs.Meaning.{networkOf};
 ghost use Rattle.hgn.specs.Network as Network;
-ghost use Rattle.hgn.specs.State.{State};
-ghost use Rattle.hgn.specs.Network.{mostWaiting, free, goalAt};
-ghost use Rattle.hgn.specs.Order as OrderSheet;
-ghost use Rattle.hgn.specs.Demands.{Reached};
+ghost use Rattle.hgn.specs.Network.{free, goalAt};
 ghost use Rattle.hgn.specs.Run.{methodAt};
 ghost use Rattle.hgn.specs.Shop.{domain, methodCount};
 ghost use Rattle.network.specs.Entries.{entryAt, listOf};
 ghost use Rattle.network.specs.Tables.{Indexed};
 ghost use Rattle.predecessors.specs.Pending.{Counted};
+ghost use Rattle.predecessors.specs.Reaching.{ListReached};
 
 // The nodes of a method, used at step `number` at the free goal of a place, whose name is `parent`, enter directly before it.
 pub fn decomposed<'a>(
@@ -36,10 +34,10 @@ pub fn decomposed<'a>(
     requires { ⌜ Indexed (now shop) (now order) (now ends) (now starts) ⌝ }
     requires { ⌜ (method < methodCount (now shop)) × (number < 65535) × (place .0 < waiting .count) × (parent ≡ entryAt waiting (place .0) .name) ⌝ }
     requires { ⌜ (waiting .count + length (networkOf (methodAt (domain (now shop)) method)) ≤ 64) × (length (now counts) ≡ 64) ⌝ }
-    requires { ⌜ ((s₀ : State) × (s : State) × Reached mostWaiting (domain (now shop)) s₀ (OrderSheet.order (now order)) number s (listOf (now shop) (now order) waiting)) ⌝ }
+    requires { ⌜ ListReached (now shop) (now order) number (listOf (now shop) (now order) waiting) ⌝ }
     requires { ⌜ Counted (listOf (now shop) (now order) waiting) (now counts) ⌝ }
     requires { ⌜ free (listOf (now shop) (now order) waiting) (goalAt (listOf (now shop) (now order) waiting) (place .0)) ≡ true ⌝ }
-    ensures { λ r. ⌜ (listOf (now (shop .entry)) (now (order .entry)) r ≡ Network.decomposed (listOf (now (shop .entry)) (now (order .entry)) waiting) (place .0) number (networkOf (methodAt (domain (now (shop .entry))) method))) × (r .count ≤ 64) ⌝ }
+    ensures { λ r. ⌜ (listOf (now (shop .entry)) (now (order .entry)) r ≡ Network.decomposed (listOf (now (shop .entry)) (now (order .entry)) waiting) (place .0) (Network.step number) (networkOf (methodAt (domain (now (shop .entry))) method))) × (r .count ≤ 64) ⌝ }
     ensures { λ r. ⌜ Counted (listOf (now (shop .entry)) (now (order .entry)) r) (now (counts .exit)) ⌝ }
 {
     let next = waiting.decomposed(shop, ends, starts, number, method, parent, place);

@@ -9,8 +9,7 @@ use Rattle.hgn.specs.Meaning.{networkOf}
 use Rattle.hgn.specs.Run.{methodAt}
 use Rattle.hgn.specs.Shop.{domain}
 use Rattle.hgn.specs.Network as Network
-use Rattle.hgn.specs.Demands.{by-sheet}
-use Rattle.hgn.proofs.Reached.{sound}
+use Rattle.predecessors.proofs.Reaching.{reached-sound}
 use Rattle.network.specs.Entries.{listOf}
 use Rattle.network.proofs.Goals.{list-length}
 use Rattle.predecessors.proofs.Places.{entry-at, Filling, filling-start, filling-more, filling-done, entered-all}
@@ -40,7 +39,7 @@ module _ (d : tie.After-decomposed Inv-loop μ-loop) where
       list-length (start .args .shop .now) (start .args .order .now) (start .args .waiting)
       (omega (arith, simp length-map at (start .good .1 .1 .1 .1 .1 .0 .1 .1 .0 .1 .0 .1))) (omega arith)
 
-  grows : next ≡ Network.decomposed list (start .args .place .0) (start .args .number) (networkOf (methodAt (domain (start .args .shop .now)) (start .args .method)))
+  grows : next ≡ Network.decomposed list (start .args .place .0) (Network.step (start .args .number)) (networkOf (methodAt (domain (start .args .shop .now)) (start .args .method)))
   grows = d .decomposed .ensures .0 (start .args .order .now) (start .pre .0)
 
   more : d .decomposed .result .count ≡ start .args .waiting .count + length (networkOf (methodAt (domain (start .args .shop .now)) (start .args .method)))
@@ -106,6 +105,6 @@ decomposed-spec =
     let r = c .before .before .before .before .raise .ensures in
     let filled = filling-done _ _ _ _ _ _ (c .before .loop .inv) (omega arith) in (
       (grows d, d .decomposed .ensures .1),
-      counted-grown (s .pre .0) _ (s .pre .1 .0 .0) (list d) _ _ (omega (arith, size d)) (grows d) _ (omega (arith, more d)) (sound (by-sheet (s .args .order .now) (s .pre .0 .checked)) (s .pre .1 .1 .1 .0 .2) .named) (s .pre .1 .1 .1 .1 .1) _ _ (s .pre .1 .1 .1 .1 .0)
+      counted-grown (s .pre .0) _ (s .pre .1 .0 .0) (list d) _ _ (omega (arith, size d)) (grows d) _ (omega (arith, more d)) (reached-sound (s .pre .0 .checked) (s .pre .1 .1 .1 .0 .1) .named) (s .pre .1 .1 .1 .1 .1) _ _ (s .pre .1 .1 .1 .1 .0)
           (entered-all _ _ _ _ _ _ _ r filled (omega (arith, size-next d, more d, s .pre .1 .0 .2)) (omega (arith, s .pre .1 .0 .2)) (omega (arith, size-next d, d .decomposed .ensures .1, s .pre .1 .1 .0 .1))),
     )))
