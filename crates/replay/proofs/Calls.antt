@@ -3,113 +3,113 @@ use Prim.Native.Nat.{ℕ, _+_, _<_, _≤_}
 use native.Mathlib.Omega.{arith}
 use mathlib.Core.Path.{_≡_, refl, sym, ap, ap₂, _∙_}
 use mathlib.Core.Logic.{_≢_}
+use mathlib.Core.Bool.{false}
 use mathlib.Core.List.{List, [], _++_}
-use lib.Dec.{leb}
 use lib.ListN.{length, take, drop}
 use borrow.Author.Tests.{lt-leb}
+use Rattle.hgn.specs.Questions as Questions
+use Rattle.hgn.specs.Questions.{_asks_, Verdict, passed, refused, firstNo, told}
 use Rattle.hgn.specs.State.{State}
-use Rattle.hgn.specs.Network.{goalsOf, mostWaiting}
-use Rattle.hgn.specs.Run.{Outcome, stopped, accepted, run, startOf}
-use Rattle.hgn.specs.Verdict as Verdict
-use Rattle.hgn.specs.Verdict.{passed, refused, numberOf, andThen, ask}
-use Rattle.hgn.specs.Shop.{domain, actionCount}
-use Rattle.hgn.specs.Order.{order as meaning}
-use Rattle.hgn.specs.Trace.{stepCount, stepsOf, checkTrace}
-use Rattle.hgn.specs.Replay.{Replayed, refusal, acceptance, reported, checkReplay, replay}
+use Rattle.hgn.specs.Run.{problemOf, Deed, Outcome, stopped, accepted, run, planOf}
+use Rattle.hgn.specs.Shop.{domain, actionCount, shopQuestions}
+use Rattle.hgn.specs.Order.{order as meaning, orderQuestions}
+use Rattle.hgn.specs.Trace.{stepCount, stepsOf, traceQuestions, checkTrace}
+use Rattle.hgn.specs.Replay as Replay
+use Rattle.hgn.specs.Replay.{rulesOf, Replayed, refusal, acceptance, reported, inputQuestions, checkReplay, replay}
+use Rattle.hgn.proofs.Firsts.{append-passed, append-refused, refused-number, told-passed}
+use Rattle.hgn.proofs.Numbers.{of-trace, run-numbers, not-zero}
 use Rattle.hgn.proofs.Checked.{shop-of-order, order-of-trace, shop-counts}
-use Rattle.hgn.proofs.Numbers.{Numbered, trace-numbered}
-use Rattle.hgn.proofs.Replayed.{RunNumbered, run-numbered, inputs-passed}
+use Rattle.hgn.proofs.Replayed.{inputs-passed, replay-refused, replay-passed, verdictOf, run-first}
 use Rattle.hgn.proofs.Traces.{trace-sizes}
 use Rattle.scan.proofs.Lookup.{length-part}
-use Rattle.sheets.specs.Answers as Check
-use Rattle.sheets.specs.declared.check.Verdict as Code
-use Rattle.replay.specs.Answers.{answerOf, runAnswer, actionMoves, Called}
+use Rattle.reading.specs.Refusals.{refusalOf}
+use Rattle.reading.specs.declared.refusal.Refusal.{Refusal}
+use Rattle.replay.specs.Answers.{answerOf, replayedOf, runAnswer, actionMoves}
 use Rattle.replay.specs.declared.answer.Answer.{Answer}
 use Rattle.replay.proofs.Plans.{plan-moves, plan-is}
 
 module _ (shop order trace room : List ℕ) where
   abbrev outcome : Outcome
-  outcome = run mostWaiting (domain shop) 0 (startOf (meaning order)) (goalsOf (meaning order)) (stepsOf trace)
+  outcome = run (rulesOf shop) 0 (problemOf (meaning order)) (stepsOf trace)
+
+  -- What the call is to give.
+  abbrev Gives : Answer → List ℕ → Type 0
+  Gives r exit = replayedOf r exit ≡ replay shop order trace room
 
   -- A refusal at a question before the run.
-  before-run : (number place : ℕ) → checkReplay shop order trace room ≡ refused number place → (r : Answer)
-      → r ≡ answerOf (refusal [] number place .answer) → Called shop order trace room r room
-  unfolding refusal replay
-  before-run number place e r a =
-      let is : replay shop order trace room ≡ refusal room number place = rw (e, replay) refl in
-      record { answers = a ∙ ap (λ (x : Replayed). answerOf (x .answer)) (sym is); leaves = ap (λ (x : Replayed). x .room) (sym is) }
+  before-run : (q : Questions.Refusal) → checkReplay shop order trace room ≡ refused q → (r : Answer)
+      → answerOf r ≡ refusal [] q .answer → Gives r room
+  unfolding refusal
+  before-run q e r a = ap (λ (x : Replay.Answer). record { answer = x; room = room }) a ∙ sym (replay-refused shop order trace room q e)
 
   -- A sheet is refused.
-  pub sheet-refused : (v : Code.Verdict) → v ≡ Check.answerOf (checkTrace shop order trace) → v .number ≢ 0 → (r : Answer)
-      → r ≡ answerOf (refusal [] (v .number) (v .place) .answer) → Called shop order trace room r room
-  unfolding checkReplay andThen
+  pub sheet-refused : (v : Refusal) → refusalOf v ≡ told (checkTrace shop order trace) → v .number ≢ 0 → (r : Answer)
+      → answerOf r ≡ refusal [] (refusalOf v) .answer → Gives r room
+  unfolding checkReplay inputQuestions checkTrace
   sheet-refused v e z r a = go (checkTrace shop order trace) refl
     where
-      go : (w : Verdict.Verdict) → checkTrace shop order trace ≡ w → Called shop order trace room r room
-      go passed w = absurd (z (ap (λ (x : Code.Verdict). x .number) e ∙ ap numberOf w))
-      go (refused number place) w =
-          let is = e ∙ ap Check.answerOf w in
-          before-run number place (ap (λ (x : Verdict.Verdict). andThen x (ask (leb (stepCount trace) (length room)) 24 0 passed)) w) r
-          (a ∙ ap₂ (λ (n p : ℕ). answerOf (refusal [] n p .answer)) (ap (λ (x : Code.Verdict). x .number) is) (ap (λ (x : Code.Verdict). x .place) is))
+      go : (w : Verdict) → checkTrace shop order trace ≡ w → Gives r room
+      go passed w = absurd (z (ap (λ (x : Questions.Refusal). x .number) (e ∙ ap told w)))
+      go (refused q) w =
+          before-run q (append-refused (shopQuestions shop ++ orderQuestions shop order ++ traceQuestions trace) _ q w) r
+          (a ∙ ap (λ (x : Questions.Refusal). refusal [] x .answer) (e ∙ ap told w))
 
   -- A check that answers 0 has passed.
-  pub sheet-passes : (v : Code.Verdict) → v ≡ Check.answerOf (checkTrace shop order trace) → v .number ≡ 0 → checkTrace shop order trace ≡ passed
-  sheet-passes v e z = go (checkTrace shop order trace) refl (trace-numbered shop order trace)
-    where
-      go : (w : Verdict.Verdict) → checkTrace shop order trace ≡ w → Numbered w → w ≡ passed
-      go passed w h = refl
-      go (refused number place) w h = absurd (h (sym (ap numberOf w) ∙ sym (ap (λ (x : Code.Verdict). x .number) e) ∙ z))
+  pub sheet-passes : (v : Refusal) → refusalOf v ≡ told (checkTrace shop order trace) → v .number ≡ 0 → checkTrace shop order trace ≡ passed
+  unfolding checkTrace
+  sheet-passes v e z = told-passed _ [] (refusalOf v) e (of-trace _ not-zero shop order trace) z
 
   module _ (ok : checkTrace shop order trace ≡ passed) where
     -- The room is too short.
-    pub room-short : length room < stepCount trace → (r : Answer) → r ≡ answerOf (refusal [] 24 0 .answer) → Called shop order trace room r room
-    unfolding checkReplay andThen ask
-    room-short h r a = before-run 24 0 (rw (ok, lt-leb (stepCount trace) (length room) h) refl) r a
+    pub room-short : length room < stepCount trace → (r : Answer) → answerOf r ≡ refusal [] ((24 asks false) .refusal) .answer → Gives r room
+    unfolding checkReplay inputQuestions checkTrace firstNo
+    room-short h r a =
+        before-run ((24 asks false) .refusal)
+        (append-passed (shopQuestions shop ++ orderQuestions shop order ++ traceQuestions trace) _ ok ∙ rw (lt-leb (stepCount trace) (length room) h)) r a
 
     module _ (fits : stepCount trace ≤ length room) where
       reports : replay shop order trace room ≡ reported (domain shop) (stepCount trace) room outcome
-      unfolding replay
-      reports = rw (inputs-passed shop order trace room (ok, fits), replay) refl
+      reports = replay-passed shop order trace room (inputs-passed shop order trace room (ok, fits))
 
       -- The plan is the actions among the moves.
-      plan-words : (plan : List ℕ) (last : State) → outcome ≡ accepted plan last → plan ≡ actionMoves (actionCount shop) (take (stepCount trace) (drop 1 trace))
+      plan-words : (deeds : List Deed) (last : State) → outcome ≡ accepted deeds last
+          → planOf deeds ≡ actionMoves (actionCount shop) (take (stepCount trace) (drop 1 trace))
       unfolding stepsOf
-      plan-words plan last e =
+      plan-words deeds last e =
           let t = trace-sizes shop order trace ok in
-          plan-is mostWaiting (domain shop) 0 (startOf (meaning order)) (goalsOf (meaning order)) (stepsOf trace) plan last e
+          plan-is (rulesOf shop) 0 (problemOf (meaning order)) (stepsOf trace) deeds last e
           ∙ plan-moves (domain shop) (take (stepCount trace) (drop 1 trace)) (take (stepCount trace) (drop (1 + stepCount trace) trace))
           (omega (arith, length-part trace 1 (stepCount trace) (omega arith), length-part trace (1 + stepCount trace) (stepCount trace) (omega arith)))
           ∙ ap (λ (k : ℕ). actionMoves k (take (stepCount trace) (drop 1 trace))) (shop-counts shop (shop-of-order shop order (order-of-trace shop order trace ok)) .0)
 
-      module _ (r : Answer) (a : r ≡ runAnswer shop trace (startOf (meaning order)) (goalsOf (meaning order))) where
+      module _ (r : Answer) (a : answerOf r ≡ runAnswer shop trace (problemOf (meaning order))) where
+        answers : (o : Outcome) → outcome ≡ o → answerOf r ≡ reported (domain shop) (stepCount trace) [] o .answer
+        answers o e = a ∙ ap (λ (x : Outcome). reported (domain shop) (stepCount trace) [] x .answer) e
+
         -- A step is refused, or something waits at the end.
-        pub run-stopped : r .number ≢ 0 → Called shop order trace room r room
+        pub run-stopped : r .refusal .number ≢ 0 → Gives r room
         unfolding reported refusal acceptance
         run-stopped z = go outcome refl
           where
-            go : (o : Outcome) → outcome ≡ o → Called shop order trace room r room
-            go (stopped number place) e =
-                let is = reports ∙ ap (reported (domain shop) (stepCount trace) room) e in
-                record {
-                  answers = a ∙ ap (λ (x : Outcome). answerOf (reported (domain shop) (stepCount trace) [] x .answer)) e ∙ ap (λ (x : Replayed). answerOf (x .answer)) (sym is);
-                  leaves = ap (λ (x : Replayed). x .room) (sym is);
-                }
-            go (accepted plan last) e =
-                absurd (z (ap (λ (x : Answer). x .number) (a ∙ ap (λ (x : Outcome). answerOf (reported (domain shop) (stepCount trace) [] x .answer)) e)))
+            go : (o : Outcome) → outcome ≡ o → Gives r room
+            go (stopped q) e =
+                ap (λ (x : Replay.Answer). record { answer = x; room = room }) (answers (stopped q) e)
+                ∙ sym (reports ∙ ap (reported (domain shop) (stepCount trace) room) e)
+            go (accepted deeds last) e = absurd (z (ap (λ (x : Replay.Answer). x .refusal .number) (answers (accepted deeds last) e)))
 
         -- Accepted, with the plan written.
-        pub run-accepted : r .number ≡ 0 → (exit : List ℕ)
+        pub run-accepted : r .refusal .number ≡ 0 → (exit : List ℕ)
             → exit ≡ actionMoves (actionCount shop) (take (stepCount trace) (drop 1 trace)) ++ drop (length (actionMoves (actionCount shop) (take (stepCount trace) (drop 1 trace)))) room
-            → Called shop order trace room r exit
-        unfolding reported refusal acceptance
-        run-accepted z exit w = go outcome refl (run-numbered mostWaiting (domain shop) 0 (startOf (meaning order)) (goalsOf (meaning order)) (stepsOf trace))
+            → Gives r exit
+        unfolding reported refusal acceptance verdictOf
+        run-accepted z exit w = go outcome refl
           where
-            go : (o : Outcome) → outcome ≡ o → RunNumbered o → Called shop order trace room r exit
-            go (stopped number place) e h =
-                absurd (h (sym (ap (λ (x : Answer). x .number) (a ∙ ap (λ (x : Outcome). answerOf (reported (domain shop) (stepCount trace) [] x .answer)) e)) ∙ z))
-            go (accepted plan last) e h =
-                let is = reports ∙ ap (reported (domain shop) (stepCount trace) room) e in
-                record {
-                  answers = a ∙ ap (λ (x : Outcome). answerOf (reported (domain shop) (stepCount trace) [] x .answer)) e ∙ ap (λ (x : Replayed). answerOf (x .answer)) (sym is);
-                  leaves = w ∙ ap (λ (p : List ℕ). p ++ drop (length p) room) (sym (plan-words plan last e)) ∙ ap (λ (x : Replayed). x .room) (sym is);
-                }
+            go : (o : Outcome) → outcome ≡ o → Gives r exit
+            go (stopped q) e =
+                let f = run-first (rulesOf shop) 0 (problemOf (meaning order)) (stepsOf trace) ∙ ap verdictOf e in
+                absurd (refused-number (λ k. k ≢ 0) _ (run-numbers (λ k. k ≢ 0) not-zero (rulesOf shop) 0 (problemOf (meaning order)) (stepsOf trace)) q f
+                (sym (ap (λ (x : Replay.Answer). x .refusal .number) (answers (stopped q) e)) ∙ z))
+            go (accepted deeds last) e =
+                ap₂ {C = Replayed} (λ (x : Replay.Answer) (l : List ℕ). record { answer = x; room = l }) (answers (accepted deeds last) e)
+                (w ∙ ap (λ (p : List ℕ). p ++ drop (length p) room) (sym (plan-words deeds last e)))
+                ∙ sym (reports ∙ ap (reported (domain shop) (stepCount trace) room) e)

@@ -2,83 +2,100 @@
 use Prim.Native.Nat.{ℕ, suc, _+_, _*_, _<_, _≤_}
 use native.Mathlib.Omega.{arith}
 use native.Mathlib.Numerals.{add-one}
-use mathlib.Core.Path.{_≡_, refl, sym, ap, ap₂, _∙_}
-use mathlib.Core.List.{List, [], _∷_, _++_, append-assoc}
+use mathlib.Core.Path.{_≡_, refl, ap, ap₂, sym, _∙_}
+use mathlib.Core.List.{List, [], _∷_, _++_}
 use lib.ListN.{length, getD, drop, length-append, drop-of-length-le}
 use lib.Seq.{drop-cons}
-use Rattle.hgn.specs.Meaning.{Domain}
+use Rattle.hgn.specs.Questions.{Refusal, placed}
 use Rattle.hgn.specs.State.{State}
-use Rattle.hgn.specs.Network.{Waiting, mostWaiting}
-use Rattle.hgn.specs.Run.{Step, refused, taken, stepped, Outcome, stopped, accepted, prepend, ended, run, costOf}
+use Rattle.hgn.specs.Run.{Step, Problem, Rules, Deed, refused, taken, stepped, Outcome, stopped, accepted, prepend, ended, runBy, run, planOf, costOf}
 use Rattle.hgn.proofs.Runs.{resumed, run-cons}
+use Rattle.hgn.proofs.Cuts.{plan-append}
 use Rattle.hgn.proofs.Costs.{cost-append}
 
-pub record Running (d : Domain) (xs : List Step) (s₀ : State) (w₀ : List Waiting) (i : ℕ) (s : State) (w : List Waiting) (count cost : ℕ) : Type 0 where
+-- What several steps did, in front of what the rest of the run did.
+unfoldable pub prependAll : List Deed → Outcome → Outcome
+prependAll [] o = o
+prependAll (deed ∷ deeds) o = prepend deed (prependAll deeds o)
+
+prepended-one : (deeds : List Deed) (deed : Deed) (o : Outcome) → prependAll deeds (prepend deed o) ≡ prependAll (deeds ++ (deed ∷ [])) o
+unfolding prependAll
+prepended-one [] deed o = refl
+prepended-one (d ∷ deeds) deed o = ap (prepend d) (prepended-one deeds deed o)
+
+pub prepended-stopped : (deeds : List Deed) (q : Refusal) → prependAll deeds (stopped q) ≡ stopped q
+unfolding prependAll prepend
+prepended-stopped [] q = refl
+prepended-stopped (d ∷ deeds) q = ap (prepend d) (prepended-stopped deeds q)
+
+pub prepended-accepted : (deeds : List Deed) (s : State) → prependAll deeds (accepted [] s) ≡ accepted deeds s
+unfolding prependAll prepend
+prepended-accepted [] s = refl
+prepended-accepted (d ∷ deeds) s = ap (prepend d) (prepended-accepted deeds s)
+
+pub record Running (r : Rules) (xs : List Step) (P₀ : Problem) (i : ℕ) (P : Problem) (count cost : ℕ) : Type 0 where
   pub inside : i ≤ length xs
-  pub done : List ℕ
-  pub ran : run mostWaiting d 0 s₀ w₀ xs ≡ prepend done (run mostWaiting d i s w (drop i xs))
-  pub counts : count ≡ length done
-  pub costs : cost ≡ costOf d done
+  pub deeds : List Deed
+  pub ran : run r 0 P₀ xs ≡ prependAll deeds (run r i P (drop i xs))
+  pub counts : count ≡ length (planOf deeds)
+  pub costs : cost ≡ costOf (r .domain) (planOf deeds)
   pub few : count ≤ i
   pub cheap : cost ≤ 65535 * i
 
-prepend-prepend : (a b : List ℕ) (o : Outcome) → prepend a (prepend b o) ≡ prepend (a ++ b) o
-unfolding prepend
-prepend-prepend a b (stopped number place) = refl
-prepend-prepend a b (accepted plan s) = ap (λ (l : List ℕ). accepted l s) (sym (append-assoc a b plan))
-
-prepend-none : (o : Outcome) → o ≡ prepend [] o
-unfolding prepend
-prepend-none (stopped number place) = refl
-prepend-none (accepted plan s) = refl
-
-module _ (d : Domain) (xs : List Step) (s₀ : State) (w₀ : List Waiting) where
-  pub running-start : Running d xs s₀ w₀ 0 s₀ w₀ 0 0
-  unfolding costOf
+module _ (r : Rules) (xs : List Step) (P₀ : Problem) where
+  pub running-start : Running r xs P₀ 0 P₀ 0 0
+  unfolding costOf planOf prependAll
   running-start = record {
     inside = omega arith;
-    done = [];
-    ran = prepend-none (run mostWaiting d 0 s₀ w₀ xs);
+    deeds = [];
+    ran = refl;
     counts = refl;
     costs = refl;
     few = omega arith;
     cheap = omega arith;
   }
 
-  module _ (i : ℕ) (s : State) (w : List Waiting) (count cost : ℕ) (r : Running d xs s₀ w₀ i s w count cost) (h : i < length xs)
+  module _ (i : ℕ) (P : Problem) (count cost : ℕ) (going : Running r xs P₀ i P count cost) (h : i < length xs)
       (x : Step) (at : getD xs i (record { move = 0; place = 0 }) ≡ x) where
     rest : drop i xs ≡ x ∷ drop (i + 1) xs
     rest = drop-cons xs i (record { move = 0; place = 0 }) h ∙ ap₂ {C = List Step} (λ y k. y ∷ drop k xs) at (sym (add-one i))
 
-    onward : run mostWaiting d i s w (drop i xs) ≡ resumed mostWaiting d i (drop (i + 1) xs) (stepped mostWaiting d i s w x)
-    onward = ap (run mostWaiting d i s w) rest ∙ run-cons mostWaiting d i s w x (drop (i + 1) xs)
+    onward : run r i P (drop i xs) ≡ resumed (stepped r) i (drop (i + 1) xs) (stepped r i P x)
+    onward = ap (run r i P) rest ∙ run-cons (stepped r) i P x (drop (i + 1) xs)
 
     -- A step that is taken leads on, with the actions it does.
-    pub running-next : (done : List ℕ) (s′ : State) (w′ : List Waiting) (count′ cost′ : ℕ) → stepped mostWaiting d i s w x ≡ taken done s′ w′
-        → count′ ≡ count + length done → cost′ ≡ cost + costOf d done → length done ≤ 1 → costOf d done ≤ 65535
-        → Running d xs s₀ w₀ (i + 1) s′ w′ count′ cost′
+    pub running-next : (deed : Deed) (P′ : Problem) (count′ cost′ : ℕ) → stepped r i P x ≡ taken deed P′
+        → count′ ≡ count + length (planOf (deed ∷ [])) → cost′ ≡ cost + costOf (r .domain) (planOf (deed ∷ []))
+        → length (planOf (deed ∷ [])) ≤ 1 → costOf (r .domain) (planOf (deed ∷ [])) ≤ 65535
+        → Running r xs P₀ (i + 1) P′ count′ cost′
     unfolding resumed
-    running-next done s′ w′ count′ cost′ e c k one cheap = record {
-      inside = omega arith;
-      done = r .done ++ done;
-      ran =
-          r .ran
-          ∙ ap (prepend (r .done)) (onward ∙ ap (resumed mostWaiting d i (drop (i + 1) xs)) e)
-          ∙ prepend-prepend (r .done) done (run mostWaiting d (suc i) s′ w′ (drop (i + 1) xs))
-          ∙ ap (λ (n : ℕ). prepend (r .done ++ done) (run mostWaiting d n s′ w′ (drop (i + 1) xs))) (sym (add-one i));
-      counts = omega (arith, r .counts, length-append (r .done) done);
-      costs = omega (arith, r .costs, cost-append d (r .done) done);
-      few = omega (arith, r .few);
-      cheap = omega (arith, r .cheap);
-    }
+    running-next deed P′ count′ cost′ e c k one cheap =
+        let plan = plan-append (going .deeds) (deed ∷ []) in
+        record {
+          inside = omega arith;
+          deeds = going .deeds ++ (deed ∷ []);
+          ran =
+              going .ran
+              ∙ ap (prependAll (going .deeds)) (onward ∙ ap (resumed (stepped r) i (drop (i + 1) xs)) e)
+              ∙ prepended-one (going .deeds) deed (run r (suc i) P′ (drop (i + 1) xs))
+              ∙ ap (λ (n : ℕ). prependAll (going .deeds ++ (deed ∷ [])) (run r n P′ (drop (i + 1) xs))) (sym (add-one i));
+          counts = omega (arith, going .counts, ap length plan, length-append (planOf (going .deeds)) (planOf (deed ∷ [])));
+          costs = omega (arith, going .costs, ap (costOf (r .domain)) plan, cost-append (r .domain) (planOf (going .deeds)) (planOf (deed ∷ [])));
+          few = omega (arith, going .few);
+          cheap = omega (arith, going .cheap);
+        }
 
     -- A step that is refused ends the run.
-    pub running-stop : (number : ℕ) → stepped mostWaiting d i s w x ≡ refused number → run mostWaiting d 0 s₀ w₀ xs ≡ stopped number i
-    unfolding resumed prepend
-    running-stop number e = r .ran ∙ ap (prepend (r .done)) (onward ∙ ap (resumed mostWaiting d i (drop (i + 1) xs)) e)
+    pub running-stop : (q : Refusal) → stepped r i P x ≡ refused q → run r 0 P₀ xs ≡ stopped (placed i q)
+    unfolding resumed
+    running-stop q e =
+        going .ran
+        ∙ ap (prependAll (going .deeds)) (onward ∙ ap (resumed (stepped r) i (drop (i + 1) xs)) e)
+        ∙ prepended-stopped (going .deeds) (placed i q)
 
   -- After the last step.
-  pub running-end : (i : ℕ) (s : State) (w : List Waiting) (count cost : ℕ) (r : Running d xs s₀ w₀ i s w count cost) → length xs ≤ i
-      → run mostWaiting d 0 s₀ w₀ xs ≡ prepend (r .done) (ended i s w)
-  unfolding run
-  running-end i s w count cost r h = r .ran ∙ ap (λ (l : List Step). prepend (r .done) (run mostWaiting d i s w l)) (drop-of-length-le xs h)
+  pub running-end : (i : ℕ) (P : Problem) (count cost : ℕ) (going : Running r xs P₀ i P count cost) → length xs ≤ i
+      → run r 0 P₀ xs ≡ prependAll (going .deeds) (ended i P)
+  unfolding runBy
+  running-end i P count cost going h =
+      going .ran ∙ ap (λ (l : List Step). prependAll (going .deeds) (run r i P l)) (drop-of-length-le xs h)

@@ -4,30 +4,29 @@ use Prim.Native.Nat.{ℕ, suc, _+_, _-_, _<_, _≤_}
 use native.Mathlib.Omega.{arith}
 use native.Mathlib.Nat.{add-zero}
 use mathlib.Core.Path.{_≡_, refl, sym, ap, ap₂, _∙_}
-use mathlib.Core.Bool.{Bool, cond}
-use mathlib.Core.List.{List, [], _∷_, append-nil}
+use mathlib.Core.List.{List, [], _∷_}
+use lib.Dec.{eqb}
 use lib.ListN.{length, getD, take, drop, length-map}
 use lib.Seq.{drop-cons}
-use borrow.Author.Tests.{ne-eqb}
 use Rattle.hgn.specs.Rows.{Row, row}
 use Rattle.hgn.specs.Meaning.{Domain, Action, firstValue, actionOf}
-use Rattle.hgn.specs.State.{State}
-use Rattle.hgn.specs.Network.{Waiting, mostWaiting}
+use Rattle.hgn.specs.Questions.{Refusal, placed, allAt, firstNo}
 use Rattle.hgn.specs.Run as Run
-use Rattle.hgn.specs.Run.{Step, actionAt, refused, taken, stepped, prepend, costOf}
+use Rattle.hgn.specs.Run.{Step, actionAt, Deed, refused, taken, stepped, endQuestions, planOf, costOf}
 use Rattle.hgn.specs.Shop.{domain, rowCount, actionCount, shopRows}
 use Rattle.hgn.specs.Trace.{step, stepsOf, stepCount}
-use Rattle.hgn.specs.Replay.{refusal, acceptance, reported}
+use Rattle.hgn.specs.Replay.{rulesOf, refusal, acceptance, reported}
 use Rattle.spans.specs.Index.{starts, span}
 use Rattle.scan.proofs.Lookup.{length-zipWith, getD-zipWith, length-part, getD-part, rows-at}
-use Rattle.spans.proofs.Spans.{bounds, block-first, block-ends}
+use Rattle.spans.proofs.Spans.{bounds, block-first, block-ends, by-test}
 use Rattle.spans.proofs.Indexed.{shop-length, blocks-count, action-span}
-use Rattle.network.specs.Entries.{listOf, entriesOf, waitingOf}
+use Rattle.network.specs.Entries.{entriesOf, waitingOf}
 use Rattle.network.specs.Tables.{Indexed}
-use Rattle.replay.specs.Answers.{answerOf, runAnswer, endAnswer}
+use Rattle.replay.specs.Answers.{runAnswer, endAnswer}
+use Rattle.steps.specs.Steps.{problemIn}
 use Rattle.steps.specs.declared.problem.Problem.{Problem}
 use Rattle.network.proofs.Tables.{shop-passes, start-at, indexable}
-use Rattle.replay.proofs.Running.{Running, running-next, running-stop, running-end}
+use Rattle.replay.proofs.Running.{prependAll, prepended-stopped, prepended-accepted, Running, running-next, running-stop, running-end}
 
 -- The steps of a trace that is long enough for them.
 module _ (trace : List ℕ) (fits : 1 + (stepCount trace + stepCount trace) ≤ length trace) where
@@ -77,16 +76,17 @@ module _ (shop order endTable startTable : List ℕ) (t : Indexed shop order end
         ∙ ap (λ (r : Row). r .value) (ap (λ (a : ℕ). getD (shopRows shop) a (row 0 0)) (sym start-is) ∙ rows-at 4 (rowCount shop) shop (indexable t .fits) (getD startTable (k - 1) 0) start-below)
 
 -- After the last step: is nothing waiting?
-ended-answer : (d : Domain) (steps : ℕ) (done : List ℕ) (s : State) (w : List Waiting)
-    → answerOf (reported d steps [] (prepend done (Run.ended steps s w)) .answer) ≡ endAnswer steps s (length w) (length done) (costOf d done)
-unfolding prepend Run.ended reported acceptance
-ended-answer d steps done s [] = rw (append-nil done) refl
-ended-answer d steps done s (g ∷ w) =
-    sym (ap (λ (b : Bool). answerOf (cond b (record { number = 0; place = steps; state = s; count = length done; cost = costOf d done }) (refusal [] 33 steps .answer))) (ne-eqb (length (g ∷ w)) 0 (omega arith)))
+ended-answer : (d : Domain) (steps : ℕ) (deeds : List Deed) (P : Run.Problem)
+    → reported d steps [] (prependAll deeds (Run.ended steps P)) .answer
+    ≡ endAnswer steps (P .state) (length (P .waiting)) (length (planOf deeds)) (costOf d (planOf deeds))
+unfolding Run.ended endQuestions firstNo allAt reported acceptance
+ended-answer d steps deeds P = by-test (eqb (length (P .waiting)) 0)
+    (λ z. rw (z, Run.ended, prepended-accepted deeds (P .state)) refl)
+    (λ z. rw (z, Run.ended, prepended-stopped deeds (record { number = 33; place = steps })) refl)
 
 -- A run in progress, and its next step.
-module _ (shop trace : List ℕ) (fits : 1 + (stepCount trace + stepCount trace) ≤ length trace) (s₀ : State) (w₀ : List Waiting)
-    (i : ℕ) (s : State) (w : List Waiting) (count cost : ℕ) (going : Running (domain shop) (stepsOf trace) s₀ w₀ i s w count cost)
+module _ (shop trace : List ℕ) (fits : 1 + (stepCount trace + stepCount trace) ≤ length trace) (P₀ : Run.Problem)
+    (i : ℕ) (P : Run.Problem) (count cost : ℕ) (going : Running (rulesOf shop) (stepsOf trace) P₀ i P count cost)
     (h : i < stepCount trace) (move place : ℕ) (m : move ≡ getD trace (1 + i) 0) (p : place ≡ getD trace (1 + stepCount trace + i) 0) where
   next-is : getD (stepsOf trace) i (record { move = 0; place = 0 }) ≡ record { move = move; place = place }
   next-is = step-at trace fits i h ∙ ap₂ {C = Step} (λ a b. record { move = a; place = b }) (sym m) (sym p)
@@ -95,42 +95,45 @@ module _ (shop trace : List ℕ) (fits : 1 + (stepCount trace + stepCount trace)
   next-inside = omega (arith, steps-length trace fits)
 
   -- Refused, the run ends.
-  pub run-stops : (q : ℕ) → stepped mostWaiting (domain shop) i s w (record { move = move; place = place }) ≡ refused q
-      → answerOf (refusal [] q i .answer) ≡ runAnswer shop trace s₀ w₀
+  pub run-stops : (q : Refusal) → stepped (rulesOf shop) i P (record { move = move; place = place }) ≡ refused q
+      → refusal [] (placed i q) .answer ≡ runAnswer shop trace P₀
   unfolding reported
   run-stops q e =
-      sym (ap (λ (o : Run.Outcome). answerOf (reported (domain shop) (stepCount trace) [] o .answer))
-      (running-stop (domain shop) (stepsOf trace) s₀ w₀ i s w count cost going next-inside (record { move = move; place = place }) next-is q e))
+      sym (ap (λ (o : Run.Outcome). reported (domain shop) (stepCount trace) [] o .answer)
+      (running-stop (rulesOf shop) (stepsOf trace) P₀ i P count cost going next-inside (record { move = move; place = place }) next-is q e))
 
   -- Taken with no action.
-  pub run-on : (s′ : State) (w′ : List Waiting) → stepped mostWaiting (domain shop) i s w (record { move = move; place = place }) ≡ taken [] s′ w′
-      → Running (domain shop) (stepsOf trace) s₀ w₀ (i + 1) s′ w′ count cost
+  pub run-on : (deed : Deed) (P′ : Run.Problem) → stepped (rulesOf shop) i P (record { move = move; place = place }) ≡ taken deed P′
+      → planOf (deed ∷ []) ≡ [] → Running (rulesOf shop) (stepsOf trace) P₀ (i + 1) P′ count cost
   unfolding costOf
-  run-on s′ w′ e =
-      running-next (domain shop) (stepsOf trace) s₀ w₀ i s w count cost going next-inside (record { move = move; place = place }) next-is [] s′ w′ count cost e
-      (omega arith) (omega arith) (omega arith) (omega arith)
+  run-on deed P′ e none =
+      let c : costOf (domain shop) (planOf (deed ∷ [])) ≡ 0 = ap (costOf (domain shop)) none in
+      running-next (rulesOf shop) (stepsOf trace) P₀ i P count cost going next-inside (record { move = move; place = place }) next-is deed P′ count cost e
+      (omega (arith, ap length none)) (omega (arith, c)) (omega (arith, ap length none)) (omega (arith, c))
 
   -- Taken with an action.
-  pub run-acts : (k : ℕ) (s′ : State) (price : ℕ) → stepped mostWaiting (domain shop) i s w (record { move = move; place = place }) ≡ taken (k ∷ []) s′ w
+  pub run-acts : (k : ℕ) (P′ : Run.Problem) (price : ℕ) → stepped (rulesOf shop) i P (record { move = move; place = place }) ≡ taken (Run.takes k) P′
       → price ≡ costOf (domain shop) (k ∷ []) → price ≤ 65535
-      → Running (domain shop) (stepsOf trace) s₀ w₀ (i + 1) s′ w (count + 1) (cost + price)
-  run-acts k s′ price e q small =
-      running-next (domain shop) (stepsOf trace) s₀ w₀ i s w count cost going next-inside (record { move = move; place = place }) next-is (k ∷ []) s′ w (count + 1) (cost + price) e
+      → Running (rulesOf shop) (stepsOf trace) P₀ (i + 1) P′ (count + 1) (cost + price)
+  unfolding planOf
+  run-acts k P′ price e q small =
+      running-next (rulesOf shop) (stepsOf trace) P₀ i P count cost going next-inside (record { move = move; place = place }) next-is (Run.takes k) P′ (count + 1) (cost + price) e
       (omega arith) (omega arith) (omega arith) (omega arith)
 
 -- A run in progress, and its end.
-module _ (shop order trace : List ℕ) (fits : 1 + (stepCount trace + stepCount trace) ≤ length trace) (s₀ : State) (w₀ : List Waiting)
-    (i : ℕ) (problem : Problem) (count cost : ℕ) (going : Running (domain shop) (stepsOf trace) s₀ w₀ i (problem .atoms) (listOf shop order (problem .waiting)) count cost)
+module _ (shop order trace : List ℕ) (fits : 1 + (stepCount trace + stepCount trace) ≤ length trace) (P₀ : Run.Problem)
+    (i : ℕ) (problem : Problem) (count cost : ℕ) (going : Running (rulesOf shop) (stepsOf trace) P₀ i (problemIn shop order problem) count cost)
   where
     -- After the last step.
     pub run-ended : stepCount trace ≤ i
-        → endAnswer (stepCount trace) (problem .atoms) (length (entriesOf (problem .waiting))) count cost ≡ runAnswer shop trace s₀ w₀
+        → endAnswer (stepCount trace) (problem .atoms) (length (entriesOf (problem .waiting))) count cost ≡ runAnswer shop trace P₀
     run-ended past =
         let l = steps-length trace fits in
         let last : i ≡ stepCount trace = omega (arith, going .inside) in
+        let plan = planOf (going .deeds) in
         ap₂ (endAnswer (stepCount trace) (problem .atoms) (length (entriesOf (problem .waiting)))) (going .counts) (going .costs)
-        ∙ ap (λ (n : ℕ). endAnswer (stepCount trace) (problem .atoms) n (length (going .done)) (costOf (domain shop) (going .done))) (sym (length-map (entriesOf (problem .waiting)) (waitingOf shop order)))
-        ∙ sym (ended-answer (domain shop) (stepCount trace) (going .done) (problem .atoms) (listOf shop order (problem .waiting)))
-        ∙ ap (λ (o : Run.Outcome). answerOf (reported (domain shop) (stepCount trace) [] o .answer))
-        (ap (λ (n : ℕ). prepend (going .done) (Run.ended n (problem .atoms) (listOf shop order (problem .waiting)))) (sym last)
-        ∙ sym (running-end (domain shop) (stepsOf trace) s₀ w₀ i (problem .atoms) (listOf shop order (problem .waiting)) count cost going (omega arith)))
+        ∙ ap (λ (n : ℕ). endAnswer (stepCount trace) (problem .atoms) n (length plan) (costOf (domain shop) plan)) (sym (length-map (entriesOf (problem .waiting)) (waitingOf shop order)))
+        ∙ sym (ended-answer (domain shop) (stepCount trace) (going .deeds) (problemIn shop order problem))
+        ∙ ap (λ (o : Run.Outcome). reported (domain shop) (stepCount trace) [] o .answer)
+        (ap (λ (n : ℕ). prependAll (going .deeds) (Run.ended n (problemIn shop order problem))) (sym last)
+        ∙ sym (running-end (rulesOf shop) (stepsOf trace) P₀ i (problemIn shop order problem) count cost going (omega arith)))

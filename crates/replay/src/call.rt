@@ -3,6 +3,7 @@ use crate::answer::Answer;
 use crate::first;
 use crate::plan;
 use crate::run;
+use reading::refusal::Refusal;
 use scan::rows::Layout;
 use scan::rows::word;
 use sheets::check;
@@ -15,10 +16,10 @@ ghost use Rattle.hgn.specs.Rows.{mostRows};
 ghost use Rattle.hgn.specs.Shop.{mostActions, mostMethods};
 ghost use Rattle.hgn.specs.Questions.{passed};
 ghost use Rattle.hgn.specs.Trace.{checkTrace, stepCount};
-ghost use Rattle.hgn.specs.Run.{startOf};
-ghost use Rattle.hgn.specs.Network.{goalsOf};
+ghost use Rattle.hgn.specs.Run.{problemOf};
 ghost use Rattle.hgn.specs.Order as OrderSheet;
-ghost use Rattle.replay.specs.Answers.{runAnswer, Called};
+ghost use Rattle.hgn.specs.Replay as Replay;
+ghost use Rattle.replay.specs.Answers.{answerOf, replayedOf, runAnswer};
 
 // The moves of a trace.
 fn moves_of(trace: &[u16]) -> &[u16]
@@ -39,7 +40,7 @@ fn run_indexed<'a>(
 ) -> Answer
     requires { ⌜ checkTrace (now shop) (now order) (now trace) ≡ passed ⌝ }
     requires { ⌜ (mostRows ≤ length (now ends)) × (suc (mostActions + mostMethods) ≤ length (now starts)) ⌝ }
-    ensures { λ r. ⌜ r ≡ runAnswer (now (shop .entry)) (now (trace .entry)) (startOf (OrderSheet.order (now (order .entry)))) (goalsOf (OrderSheet.order (now (order .entry)))) ⌝ }
+    ensures { λ r. ⌜ answerOf r ≡ runAnswer (now (shop .entry)) (now (trace .entry)) (problemOf (OrderSheet.order (now (order .entry)))) ⌝ }
 {
     let first = first::prepared(shop, order, ends, starts);
     run::run(shop, order, trace, ends, starts, first)
@@ -48,7 +49,7 @@ fn run_indexed<'a>(
 // The same, with tables of the largest sheet's size.
 fn run_checked<'a>(shop: &'a [u16], order: &'a [u16], trace: &[u16]) -> Answer
     requires { ⌜ checkTrace (now shop) (now order) (now trace) ≡ passed ⌝ }
-    ensures { λ r. ⌜ r ≡ runAnswer (now (shop .entry)) (now (trace .entry)) (startOf (OrderSheet.order (now (order .entry)))) (goalsOf (OrderSheet.order (now (order .entry)))) ⌝ }
+    ensures { λ r. ⌜ answerOf r ≡ runAnswer (now (shop .entry)) (now (trace .entry)) (problemOf (OrderSheet.order (now (order .entry)))) ⌝ }
 {
     let mut ends = [0u16; Layout::MOST_ROWS as usize];
     let mut starts = [0u16; Shop::MOST_BLOCKS + 1];
@@ -57,17 +58,17 @@ fn run_checked<'a>(shop: &'a [u16], order: &'a [u16], trace: &[u16]) -> Answer
 
 // Questions 1 to 33. Accepted, the plan stands in the first words of the room.
 pub fn replay<'a>(shop: &'a [u16], order: &'a [u16], trace: &[u16], plan: &mut [u16]) -> Answer
-    ensures { λ r. ⌜ Called (now (shop .entry)) (now (order .entry)) (now (trace .entry)) (now (plan .entry)) r (now (plan .exit)) ⌝ }
+    ensures { λ r. ⌜ replayedOf r (now (plan .exit)) ≡ Replay.replay (now (shop .entry)) (now (order .entry)) (now (trace .entry)) (now (plan .entry)) ⌝ }
 {
-    let verdict = check::check_trace(shop, order, trace);
-    if verdict.number != 0 {
-        return Answer::refused(verdict.number, verdict.place);
+    let refusal = check::check_trace(shop, order, trace);
+    if refusal.number != 0 {
+        return Answer::refused(refusal);
     }
     if plan.len() < word(trace, 0) as usize {
-        return Answer::refused(24, 0);
+        return Answer::refused(Refusal::by(24));
     }
     let answer = run_checked(shop, order, trace);
-    if answer.number != 0 {
+    if answer.refusal.number != 0 {
         return answer;
     }
     plan::write_plan(moves_of(trace), word(shop, 1), plan);

@@ -8,6 +8,7 @@ use network::waiting::Waiting;
 use predecessors::kept::fill;
 use predecessors::listed::times_listed;
 use predecessors::moved::decomposed;
+use reading::refusal::Refusal;
 use scan::rows::Layout;
 use scan::rows::Row;
 use scan::rows::word;
@@ -26,7 +27,8 @@ ghost use Rattle.hgn.specs.Order as OrderSheet;
 ghost use Rattle.hgn.specs.Trace.{stepCount};
 ghost use Rattle.network.specs.Entries.{listOf, entriesOf};
 ghost use Rattle.network.specs.Tables.{Indexed};
-ghost use Rattle.replay.specs.Answers.{runAnswer, endAnswer};
+ghost use Rattle.steps.specs.Steps.{problemIn};
+ghost use Rattle.replay.specs.Answers.{answerOf, runAnswer, endAnswer};
 
 // The cost of an action: the value of its first row.
 fn cost_of(shop: &[u16], starts: &[u16], rows: usize, action: u16) -> u16
@@ -55,7 +57,7 @@ pub fn run<'a>(
     requires { ⌜ Indexed (now shop) (now order) (now ends) (now starts) ⌝ }
     requires { ⌜ (1 + (stepCount (now trace) + stepCount (now trace)) ≤ length (now trace)) × (stepCount (now trace) ≤ 4096) ⌝ }
     requires { ⌜ (first .waiting .count ≤ 64) × (listOf (now shop) (now order) (first .waiting) ≡ goalsOf (OrderSheet.order (now order))) ⌝ }
-    ensures { λ r. ⌜ r ≡ runAnswer (now (shop .entry)) (now (trace .entry)) (first .atoms) (listOf (now (shop .entry)) (now (order .entry)) (first .waiting)) ⌝ }
+    ensures { λ r. ⌜ answerOf r ≡ runAnswer (now (shop .entry)) (now (trace .entry)) (problemIn (now (shop .entry)) (now (order .entry)) first) ⌝ }
 {
     let steps = word(trace, 0) as usize;
     let rows = word(shop, 3) as usize;
@@ -95,8 +97,8 @@ pub fn run<'a>(
             place,
         );
         match decision {
-            Decision::Refused(question) => {
-                return Answer::refused(told(shop, order, waiting, question), number);
+            Decision::Refused(refusal) => {
+                return Answer::refused(told(shop, order, waiting, refusal).at(number));
             }
             Decision::Takes(known) => match known {
                 Move::Release => {
@@ -146,18 +148,17 @@ pub fn run<'a>(
 // After the last step: nothing waiting? 33.
 fn ended(problem: Problem, steps: u16, count: u16, cost: u32) -> Answer
     requires { ⌜ problem .waiting .count ≤ 64 ⌝ }
-    ensures { λ r. ⌜ r ≡ endAnswer steps (problem .atoms) (length (entriesOf (problem .waiting))) count cost ⌝ }
+    ensures { λ r. ⌜ answerOf r ≡ endAnswer steps (problem .atoms) (length (entriesOf (problem .waiting))) count cost ⌝ }
 {
     let waiting = problem.waiting;
     if waiting.count == 0 {
         let atoms = problem.atoms;
         return Answer {
-            number: 0,
-            place: steps,
+            refusal: Refusal::none().at(steps),
             state: State { atoms: atoms },
             count: count,
             cost: cost,
         };
     }
-    Answer::refused(33, steps)
+    Answer::refused(Refusal::by(33).at(steps))
 }

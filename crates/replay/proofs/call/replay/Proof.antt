@@ -2,10 +2,11 @@
 use Prim.Native.Nat.{ℕ, _≤_}
 use native.Mathlib.Omega.{arith}
 use mathlib.Core.Path.{_≡_, ap, ap₂, _∙_}
-use mathlib.Core.List.{List, _++_}
+use mathlib.Core.List.{List, [], _++_}
 use lib.ListN.{length, take, drop}
 use borrow.Author.Needs.{needs}
-use Rattle.hgn.specs.Questions.{passed}
+use Rattle.hgn.specs.Questions.{Refusal, passed}
+use Rattle.hgn.specs.Replay.{refusal}
 use Rattle.hgn.specs.Trace.{stepCount, checkTrace}
 use Rattle.hgn.proofs.Traces.{trace-sizes}
 use Rattle.scan.proofs.Lookup.{length-part}
@@ -53,16 +54,18 @@ replay-spec =
     (λ c κs. search needs)
     (λ c. search needs)
     (λ c κs. search needs)
+    (λ c κs. search needs)
     (λ c.
-    let s = c .before .before .before .before .before .before .before .before .before .before in
+    let s = c .before .before .before .before .before .before .before .before .before .before .before in
     room-short (shop s) (order s) (trace s) (room s)
-    (sheet-passes (shop s) (order s) (trace s) (room s) (c .before .before .before .before .before .check-trace .result) (c .before .before .before .before .before .check-trace .ensures) (c .before .before .before .if1 .left))
-    (omega (arith, c .before .if2 .taken, c .before .before .word .ensures)) (c .refused2 .result) (c .refused2 .ensures))
+    (sheet-passes (shop s) (order s) (trace s) (room s) (c .before .before .before .before .before .before .check-trace .result) (c .before .before .before .before .before .before .check-trace .ensures) (c .before .before .before .before .if1 .left))
+    (omega (arith, c .before .before .if2 .taken, c .before .before .before .word .ensures)) (c .refused2 .result)
+    (c .refused2 .ensures ∙ ap (λ (q : Refusal). refusal [] q .answer) (c .before .by .ensures)))
     (λ c κs. passes c)
     (λ c. run-stopped _ _ _ _ (passes (c .before .before .before)) (enough (c .before .before .before)) (c .before .before .run-checked .result) (c .before .before .run-checked .ensures) (c .if3 .taken))
     (λ c κs. omega (arith, trace-sizes _ _ _ (passes (c .before .before .before)) .0))
     (λ c κs. search needs)
-    (λ c κs. rw (ap length (c .before .before .moves-of .ensures) ∙ moves-length (c .before .before .before .before .before .before)) (enough (c .before .before .before .before .before .before)))
+    (λ c κs. let e = c .before .before .before .before .before .before in rw (ap length (c .before .before .moves-of .ensures) ∙ moves-length e) (enough e))
     (λ c. search needs)
     (λ c.
     let e = c .before .before .before .before .before .before .before .before .before in

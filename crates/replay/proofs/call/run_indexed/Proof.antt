@@ -1,6 +1,10 @@
 -- The first record and the tables, then the run. Assumes nothing.
 use mathlib.Core.Path.{_∙_, ap₂}
+use mathlib.Core.List.{List}
 use borrow.Author.Needs.{needs}
+use Rattle.hgn.specs.State.{State}
+use Rattle.hgn.specs.Network.{Waiting}
+use Rattle.hgn.specs.Replay as Replay
 use Rattle.hgn.proofs.Checked.{order-of-trace}
 use Rattle.hgn.proofs.Traces.{trace-sizes}
 use Rattle.replay.specs.Answers.{runAnswer}
@@ -24,4 +28,4 @@ run-indexed-spec =
     let p = c .before .before .before .before .before .before .before in
     let s = p .before .before .before .before .before .before .before .before in
     c .run .ensures
-    ∙ ap₂ (runAnswer (s .args .shop .now) (s .args .trace .now)) (p .prepared .ensures .1 .0) (p .prepared .ensures .1 .1 .0)))
+    ∙ ap₂ {C = Replay.Answer} (λ (st : State) (w : List Waiting). runAnswer (s .args .shop .now) (s .args .trace .now) (record { state = st; waiting = w })) (p .prepared .ensures .1 .0) (p .prepared .ensures .1 .1 .0)))

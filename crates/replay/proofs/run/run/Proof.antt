@@ -3,7 +3,7 @@
 use Prim.Native.Nat.{ℕ, _+_, _-_, _<_, _≤_}
 use native.Mathlib.Omega.{arith}
 use native.Mathlib.Numerals.{add-one}
-use mathlib.Core.Path.{_≡_, sym, ap, ap₂, subst, _∙_}
+use mathlib.Core.Path.{_≡_, refl, sym, ap, ap₂, subst, _∙_}
 use mathlib.Core.Bool.{true}
 use mathlib.Core.Logic.{⊎-elim}
 use mathlib.Core.List.{List, [], _∷_}
@@ -13,23 +13,30 @@ use Rattle.hgn.specs.State.{State, γ}
 use Rattle.hgn.specs.Network as Network
 use Rattle.hgn.specs.Network.{mostWaiting, goalAt}
 use Rattle.hgn.specs.Order as OrderSheet
-use Rattle.hgn.specs.Demands.{Reached, first, next, by-sheet}
 use Rattle.hgn.specs.Meaning.{networkOf}
-use Rattle.hgn.specs.Run.{refused, taken, actionAt, methodAt}
+use Rattle.hgn.specs.Questions as Questions
+use Rattle.hgn.specs.Questions.{placed}
+use Rattle.hgn.specs.Run as Run
+use Rattle.hgn.specs.Run.{Problem, Deed, deedOf, moved, refused, taken, stepped, actionAt, methodAt, planOf}
 use Rattle.hgn.specs.Shop.{domain, actionCount, rowCount}
 use Rattle.hgn.specs.Trace.{stepsOf, stepCount}
-use Rattle.hgn.specs.Replay.{refusal}
+use Rattle.hgn.specs.Replay.{rulesOf, refusal}
 use Rattle.network.specs.Entries.{waitingOf, listOf, entriesOf, entryAt, noEntry}
 use Rattle.network.proofs.Places.{entry-inside, Leaving, leaving-first, leaving-next, leaving-last}
-use Rattle.steps.specs.Deciding.{toldOf, SeenIn, carried, Room, Taking, Decides}
+use Rattle.steps.specs.Moves.{knownOf}
+use Rattle.steps.specs.Deciding.{toldOf, SeenIn, Room, Taking, Decides}
 use Rattle.network.proofs.Goals.{list-length, list-released}
 use Rattle.hgn.proofs.Steps.{took}
-use Rattle.hgn.proofs.Reached.{Sound, sound}
+use Rattle.hgn.proofs.Reached.{Sound}
 use Rattle.predecessors.specs.Pending.{listed, Counted}
+use Rattle.predecessors.specs.Reaching.{ReachedAt}
+use Rattle.predecessors.proofs.Reaching.{reached-sound, reached-first, reached-next}
 use Rattle.predecessors.proofs.Places.{entry-at, later-is, Releasing, releasing-start, releasing-more, releasing-done}
 use Rattle.predecessors.proofs.Counted.{counted-first, counted-free, counted-enough, counted-left}
 use Rattle.freeness.specs.declared.free.Seen.{Seen}
 use Rattle.steps.proofs.Actions.{known-action, known-method}
+use Rattle.reading.specs.Refusals.{refusalOf}
+use Rattle.reading.specs.declared.refusal.Refusal.{Refusal}
 use Rattle.replay.specs.Answers.{answerOf, runAnswer, endAnswer}
 use Rattle.network.specs.declared.waiting.Entry.{Entry}
 use Rattle.network.specs.declared.waiting.Waiting.{Waiting}
@@ -41,6 +48,10 @@ use Rattle.replay.proofs.Totals.{start-inside, start-below, cost-is, ru
 use Rattle.replay.proofs.run.run.Statement.{statement}
 use Rattle.replay.proofs.run.run.Tie as tie
 
+-- The problem of a state and a list of the code.
+abbrev at-hand : List ℕ → List ℕ → State → Waiting → Problem
+at-hand shop order s list = record { state = s; waiting = listOf shop order list }
+
 -- A release: the goal leaves, place by place, and what the goals behind it counted of it is taken off.
 abbrev Inv-loop2 : tie.InvT-loop2
 Inv-loop2 shop order trace ends starts steps rows atoms waiting₀ counts₀ count cost i number mv at goal free last here₀ waiting counts here =
@@ -51,9 +62,9 @@ abbrev μ-loop2 : tie.MeasureT-loop2
 
 abbrev Inv-loop : tie.InvT-loop
 Inv-loop shop order trace ends starts steps rows atoms₀ waiting₀ counts₀ count₀ cost₀ i₀ atoms waiting counts count cost i =
-    Running (domain shop) (stepsOf trace) atoms₀ (listOf shop order waiting₀) i atoms (listOf shop order waiting) count cost
+    Running (rulesOf shop) (stepsOf trace) (at-hand shop order atoms₀ waiting₀) i (at-hand shop order atoms waiting) count cost
     × (waiting .count ≤ 64) × (steps ≡ stepCount trace) × (rows ≡ rowCount shop) × (length (waiting .entries) ≡ 64)
-    × Reached mostWaiting (domain shop) atoms₀ (OrderSheet.order order) i atoms (listOf shop order waiting)
+    × ReachedAt shop order i (at-hand shop order atoms waiting)
     × Counted (listOf shop order waiting) counts × (length counts ≡ 64)
 
 abbrev μ-loop : tie.MeasureT-loop
@@ -97,11 +108,17 @@ module _ (v : tie.After-decide Inv-loop2 μ-loop2 Inv-loop μ-loop) where
   abbrev place : ℕ
   place = v .before .before .before .before .before .before .word4 .result
 
-  abbrev Goes : State → List Network.Waiting → ℕ → ℕ → Type 0
-  Goes s′ w′ count cost = Running (domain shop) (stepsOf trace) (start .args .first .atoms) (listOf shop order (start .args .first .waiting)) (i + 1) s′ w′ count cost
+  abbrev P : Problem
+  P = record { state = s; waiting = w }
 
-  abbrev Reaches : State → List Network.Waiting → Type 0
-  Reaches s′ w′ = Reached mostWaiting (domain shop) (start .args .first .atoms) (OrderSheet.order order) (i + 1) s′ w′
+  abbrev P₀ : Problem
+  P₀ = at-hand shop order (start .args .first .atoms) (start .args .first .waiting)
+
+  abbrev Goes : Problem → ℕ → ℕ → Type 0
+  Goes P′ count cost = Running (rulesOf shop) (stepsOf trace) P₀ (i + 1) P′ count cost
+
+  abbrev Reaches : Problem → Type 0
+  Reaches P′ = ReachedAt shop order (i + 1) P′
 
   more : i < stepCount trace
   more = omega (arith, here .loop .inv .2, v .before .before .before .before .before .before .before .before .loop-test .taken)
@@ -116,7 +133,7 @@ module _ (v : tie.After-decide Inv-loop2 μ-loop2 Inv-loop μ-loop) where
   size = list-length shop order list (here .loop .inv .4) (here .loop .inv .1)
 
   sound-here : Sound i w
-  sound-here = sound (by-sheet order (start .pre .0 .checked)) (here .loop .inv .5)
+  sound-here = reached-sound (start .pre .0 .checked) (here .loop .inv .5)
 
   goal-entry : place < list .count → joined .if1 .goal ≡ entryAt list place
   goal-entry h =
@@ -137,46 +154,52 @@ module _ (v : tie.After-decide Inv-loop2 μ-loop2 Inv-loop μ-loop) where
       ⊎-elim (λ t. t .3 ∙ counted-free w (here .loop .counts) (here .loop .inv .6) place (omega (arith, size)))
       (λ t. absurd (omega (arith, t .0 .left))) (joined .if1 .came)
 
-  seen : SeenIn shop order w (list .count) place looked
-  seen = record { size = size; goal = goal-seen; free-is = free-seen }
+  seen : SeenIn shop order s (list .count) looked P place
+  seen = record { state = refl; size = size; goal = goal-seen; free-is = free-seen }
 
-  refuses : (q r : ℕ) → v .decide .result ≡ Refused q → r ≡ toldOf w q
-      → answerOf (refusal [] r i .answer) ≡ runAnswer shop trace (start .args .first .atoms) (listOf shop order (start .args .first .waiting))
-  refuses q r e told =
-      run-stops shop trace (start .pre .1 .0 .0) (start .args .first .atoms) (listOf shop order (start .args .first .waiting)) i s w (here .loop .count) (here .loop .cost) (here .loop .inv .0)
-      more move place move-is place-is r
-      (subst (Decides shop s w move place) e (v .decide .ensures w seen) i ∙ ap refused (sym told))
+  refuses : (q : Refusal) (told : Questions.Refusal) → v .decide .result ≡ Refused q → told ≡ toldOf w (refusalOf q)
+      → refusal [] (placed i told) .answer ≡ runAnswer shop trace P₀
+  refuses q told e is =
+      run-stops shop trace (start .pre .1 .0 .0) P₀ i P (here .loop .count) (here .loop .cost) (here .loop .inv .0)
+      more move place move-is place-is told
+      (subst (Decides shop P move place) e (v .decide .ensures P seen) i ∙ ap refused (sym is))
 
   module _ (m : Move) (e : v .decide .result ≡ Takes m) where
-    takes : Taking shop s w move place m
-    takes = subst (Decides shop s w move place) e (v .decide .ensures w seen)
+    takes : Taking shop P move place m
+    takes = subst (Decides shop P move place) e (v .decide .ensures P seen)
 
     below : place < list .count
     below = omega (arith, takes .inside, seen .size)
 
-    leads : (done : List ℕ) (s′ : State) (w′ : List Network.Waiting) → carried (domain shop) i s w place m ≡ taken done s′ w′ → Reaches s′ w′
-    leads done s′ w′ c =
-        subst (λ (n : ℕ). Reached mostWaiting (domain shop) (start .args .first .atoms) (OrderSheet.order order) n s′ w′) (sym (add-one i))
-        (next _ (here .loop .inv .5) (takes .comes i ∙ c))
+    leads : (deed : Deed) (P′ : Problem) → stepped (rulesOf shop) i P (record { move = move; place = place }) ≡ taken deed P′ → Reaches P′
+    leads deed P′ c = subst (λ (n : ℕ). ReachedAt shop order n P′) (sym (add-one i)) (reached-next _ (here .loop .inv .5) c)
 
-    goes-on : (w′ : List Network.Waiting) → carried (domain shop) i s w place m ≡ taken [] s w′ → Goes s w′ (here .loop .count) (here .loop .cost)
-    goes-on w′ c =
-        run-on shop trace (start .pre .1 .0 .0) (start .args .first .atoms) (listOf shop order (start .args .first .waiting)) i s w (here .loop .count) (here .loop .cost) (here .loop .inv .0)
-        more move place move-is place-is s w′ (takes .comes i ∙ c)
+    -- A step that takes no action.
+    goes-on : (deed : Deed) (P′ : Problem) → stepped (rulesOf shop) i P (record { move = move; place = place }) ≡ taken deed P′
+        → planOf (deed ∷ []) ≡ [] → Goes P′ (here .loop .count) (here .loop .cost) × Reaches P′
+    goes-on deed P′ c none = (
+      run-on shop trace (start .pre .1 .0 .0) P₀ i P (here .loop .count) (here .loop .cost) (here .loop .inv .0) more move place move-is place-is deed P′ c none,
+      leads deed P′ c,
+    )
 
-    releases : m ≡ Release → (w′ : List Network.Waiting) → w′ ≡ Network.released w place → Goes s w′ (here .loop .count) (here .loop .cost) × Reaches s w′
+    releases : m ≡ Release → (w′ : List Network.Waiting) → w′ ≡ Network.released w place
+        → Goes (record { state = s; waiting = w′ }) (here .loop .count) (here .loop .cost) × Reaches (record { state = s; waiting = w′ })
+    unfolding moved deedOf planOf
     releases k w′ z =
-        let e = ap (carried (domain shop) i s w place) k ∙ ap (taken [] s) (sym z) in
-        (goes-on w′ e, leads [] s w′ e)
+        goes-on (Run.releases (goalAt w place ∷ [])) (record { state = s; waiting = w′ })
+        (takes .comes i ∙ ap (λ (x : Move). taken (deedOf P place (knownOf x)) (moved (domain shop) i P place (knownOf x))) k
+        ∙ ap (λ (l : List Network.Waiting). taken (Run.releases (goalAt w place ∷ [])) (record { state = s; waiting = l })) (sym z)) refl
 
-    uses : (k : ℕ) → m ≡ Use k → (w′ : List Network.Waiting) → w′ ≡ Network.decomposed w place i (networkOf (methodAt (domain shop) k))
-        → Goes s w′ (here .loop .count) (here .loop .cost) × Reaches s w′
+    uses : (k : ℕ) → m ≡ Use k → (w′ : List Network.Waiting) → w′ ≡ Network.decomposed w place (Network.step i) (networkOf (methodAt (domain shop) k))
+        → Goes (record { state = s; waiting = w′ }) (here .loop .count) (here .loop .cost) × Reaches (record { state = s; waiting = w′ })
+    unfolding moved deedOf planOf
     uses k u w′ z =
-        let e = ap (carried (domain shop) i s w place) u ∙ ap (taken [] s) (sym z) in
-        (goes-on w′ e, leads [] s w′ e)
+        goes-on (Run.uses k (goalAt w place)) (record { state = s; waiting = w′ })
+        (takes .comes i ∙ ap (λ (x : Move). taken (deedOf P place (knownOf x)) (moved (domain shop) i P place (knownOf x))) u
+        ∙ ap (λ (l : List Network.Waiting). taken (Run.uses k (goalAt w place)) (record { state = s; waiting = l })) (sym z)) refl
 
     is-free : (k : ℕ) → m ≡ Use k → Network.free w (goalAt w place) ≡ true
-    is-free k u = took _ [] s _ (takes .comes i ∙ ap (carried (domain shop) i s w place) u) .is-free
+    is-free k u = took _ _ _ (takes .comes i) .is-free
 
     room : (k : ℕ) → m ≡ Use k → list .count + length (networkOf (methodAt (domain shop) k)) ≤ 64
     room k u = omega (arith, subst (Room (domain shop) (length w)) u (takes .room), seen .size)
@@ -187,15 +210,19 @@ module _ (v : tie.After-decide Inv-loop2 μ-loop2 Inv-loop μ-loop) where
 
       acts : (s′ : State) → s′ ≡ γ s (actionAt (domain shop) k .effects) → (price : ℕ)
           → price ≡ getD shop (4 + here .before .before .before .before .before .before .word2 .result + getD (start .args .starts .now) (k - 1) 0) 0 → price ≤ 65535
-          → Goes s′ w (here .loop .count + 1) (here .loop .cost + price) × Reaches s′ w
+          → Goes (record { state = s′; waiting = w }) (here .loop .count + 1) (here .loop .cost + price) × Reaches (record { state = s′; waiting = w })
+      unfolding moved deedOf
       acts s′ z price q small =
-          let e = ap (carried (domain shop) i s w place) a ∙ ap (λ (x : State). taken (k ∷ []) x w) (sym z) in (
-            run-acts shop trace (start .pre .1 .0 .0) (start .args .first .atoms) (listOf shop order (start .args .first .waiting)) i s w (here .loop .count) (here .loop .cost) (here .loop .inv .0)
-                more move place move-is place-is k s′ price (takes .comes i ∙ e)
+          let c =
+              takes .comes i ∙ ap (λ (x : Move). taken (deedOf P place (knownOf x)) (moved (domain shop) i P place (knownOf x))) a
+              ∙ ap (λ (x : State). taken (Run.takes k) (record { state = x; waiting = w })) (sym z)
+          in (
+            run-acts shop trace (start .pre .1 .0 .0) P₀ i P (here .loop .count) (here .loop .cost) (here .loop .inv .0)
+                more move place move-is place-is k (record { state = s′; waiting = w }) price c
                 (q ∙ ap (λ (rows : ℕ). getD shop (4 + rows + getD (start .args .starts .now) (k - 1) 0) 0) (here .loop .inv .3)
                 ∙ sym (cost-is shop order (start .args .ends .now) (start .args .starts .now) (start .pre .0) k (known .0) (known .1)))
                 small,
-            leads (k ∷ []) s′ w e,
+            leads (Run.takes k) (record { state = s′; waiting = w }) c,
           )
 
 -- A turn of a release: the goal behind has been asked how often it is listed after the one that leaves.
@@ -247,12 +274,12 @@ run-spec =
     let s = c .before .before .before .before .before .before .before .before .before .before .before .before in
     let full : length (s .args .first .waiting .entries) ≡ 64 = omega (arith, simp length-map at (s .good .1 .1 .1 .1 .1 .0 .1 .1 .1 .0 .1 .1 .0 .1 .0 .1)) in
     let e = s .pre .1 .1 .1 in (
-      running-start _ _ _ _,
+      running-start _ _ _,
       s .pre .1 .1 .0,
       c .before .before .before .before .before .before .word .ensures,
       c .before .before .before .before .before .word2 .ensures,
       full,
-      subst (λ (l : List Network.Waiting). Reached mostWaiting (domain (s .args .shop .now)) (s .args .first .atoms) (OrderSheet.order (s .args .order .now)) 0 (s .args .first .atoms) l) (sym e) first,
+      reached-first (s .args .first .atoms) e,
       counted-first (s .args .shop .now) (s .args .order .now) (s .pre .0 .checked) e (sym (list-length (s .args .shop .now) (s .args .order .now) (s .args .first .waiting) full (s .pre .1 .1 .0))) (c .before .fill .ensures),
       c .before .fill .kept .1 .1 .0 ∙ length-replicate {A = ℕ} 64 0,
     ))
@@ -273,7 +300,12 @@ run-spec =
     (λ c. search needs)
     (λ c κs. c .before .before .before .before .before .before .before .before .before .before .before .before .loop .inv .1)
     (λ c κs. search needs)
-    (λ c. let v = c .before .before .before .before .before in c .refused .ensures ∙ refuses v _ _ (c .before .before .before .decision .given .1) (c .before .told .ensures))
+    (λ c κs. search needs)
+    (λ c.
+    let v = c .before .before .before .before .before .before in
+    c .refused .ensures
+    ∙ ap (λ (q : Questions.Refusal). refusal [] q .answer) (c .before .at .ensures)
+    ∙ refuses v _ _ (c .before .before .before .before .decision .given .1) (c .before .before .told .ensures))
     (λ c. search needs)
     (λ c. search needs)
     (λ c. search needs)
@@ -351,7 +383,7 @@ run-spec =
       start v .pre .0,
       (
         (known-method (start v .pre .0) (takes v _ t .known) k, omega (arith, more v, start v .pre .1 .0 .1), below v _ t, ap (λ (x : Entry). x .name) (goal-entry v (below v _ t))),
-        ((room v _ t _ k, l .inv .7), ((_, _, l .inv .5), (l .inv .6, is-free v _ t _ k))),
+        ((room v _ t _ k, l .inv .7), ((_, l .inv .5), (l .inv .6, is-free v _ t _ k))),
       ),
     ))
     (λ c. omega arith)
@@ -368,5 +400,5 @@ run-spec =
     let s = c .before .before .before .before .before .before .before .before .before .before .before .before .before .before .before in
     c .ended .ensures
     ∙ ap (λ (n : ℕ). endAnswer n (l .atoms) (length (entriesOf (l .waiting))) (l .count) (l .cost)) (l .inv .2)
-    ∙ run-ended (s .args .shop .now) (s .args .order .now) (s .args .trace .now) (s .pre .1 .0 .0) (s .args .first .atoms) (listOf (s .args .shop .now) (s .args .order .now) (s .args .first .waiting))
+    ∙ run-ended (s .args .shop .now) (s .args .order .now) (s .args .trace .now) (s .pre .1 .0 .0) (at-hand (s .args .shop .now) (s .args .order .now) (s .args .first .atoms) (s .args .first .waiting))
     (l .i) (record { atoms = l .atoms; waiting = l .waiting }) (l .count) (l .cost) (l .inv .0) (omega arith)))
