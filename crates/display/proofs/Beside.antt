@@ -33,6 +33,7 @@ use denote.Triple.Walked.{Stay, stay-none, stay-none-slice, Goes, goes-none, goe
 use denote.Exit.{yes}
 use Rattle.hgn.specs.Run.{Step}
 use Rattle.network.specs.Tables.{Indexed}
+use Rattle.reading.specs.declared.refusal.Refusal.{Refusal}
 use Rattle.steps.specs.declared.problem.Problem.{Problem}
 use Rattle.network.specs.declared.waiting.Place.{Place}
 use Rattle.steps.proofs.problem.Problem as P
@@ -87,7 +88,7 @@ Checked a = Indexed (a .0 .now) (a .1 .0 .now) (a .1 .1 .0 .now) (a .1 .1 .1 .0 
 abbrev pub Few : Passed → Problem → Type 0
 Few a h = (h .waiting .count ≤ 64) × (number a < 65535)
 
-abbrev pub Moved : Passed → Problem → ℕ → Problem → Type 0
+abbrev pub Moved : Passed → Problem → Refusal → Problem → Type 0
 Moved a = Forward (a .0 .now) (a .1 .0 .now) (number a) (step-of a)
 
 pub needs-both : {M : Type 1} (𝓤 : URA M) (φ ψ : Type 0) (X : SProp 𝓤) {Q : SProp 𝓤} → (φ → ψ → ent 𝓤 X Q) → ent 𝓤 (sep 𝓤 X (sep 𝓤 (fact 𝓤 φ) (fact 𝓤 ψ))) Q

@@ -1,4 +1,3 @@
 -- What the display promises, of a step and of a whole trace.
 pub mod Forward
 pub mod Stepping
-pub mod Through

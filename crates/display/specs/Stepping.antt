@@ -1,59 +1,67 @@
 -- A trace stepped through on the display, and the promise that it shows what the replay answers. Document 01, "How a derivation
 -- runs" and "Questions".
-use Prim.Native.Nat.{ℕ, zero, suc, _≤_}
+use Prim.Native.Nat.{ℕ, zero, suc}
 use mathlib.Core.Path.{_≡_, refl}
 use mathlib.Core.List.{List, [], _∷_}
-use lib.ListN.{length}
-use Rattle.hgn.specs.Network.{goalsOf, mostWaiting}
-use Rattle.hgn.specs.Run.{Step, Outcome, stopped, prepend, ended, startOf}
+use lib.ListN.{take}
+use Rattle.hgn.specs.Questions.{placed}
+use Rattle.hgn.specs.Run.{Step, moveOf, problemOf, deedOf, Outcome, stopped, prepend, ended}
 use Rattle.hgn.specs.Shop.{domain}
 use Rattle.hgn.specs.Order.{order}
 use Rattle.hgn.specs.Trace.{stepCount, stepsOf}
-use Rattle.hgn.specs.Replay.{reported}
+use Rattle.hgn.specs.Replay.{rulesOf, Replayed, reported, replay}
+use Rattle.hgn.specs.Readings.{Reached}
 use Rattle.hgn.specs.Demands.{InputsPass}
-use Rattle.network.specs.Entries.{listOf}
+use Rattle.steps.specs.Steps.{problemIn}
+use Rattle.reading.specs.Refusals.{refusalOf}
+use Rattle.reading.specs.declared.refusal.Refusal.{Refusal}
 use Rattle.steps.specs.declared.problem.Problem.{Problem}
-use Rattle.replay.specs.Answers.{Called, actionMoves}
-use Rattle.replay.specs.Demands.{replayedOf}
-use Rattle.replay.specs.declared.answer.Answer.{Answer}
 use Rattle.display.specs.Forward.{Forward}
 
 -- A call of the display for step `x`, the trace's step number `n`, at the record that it holds.
 pub record Call (shop sheet : List ℕ) (n : ℕ) (x : Step) (before : Problem) : Type 0 where
-  pub answer : ℕ
+  pub answer : Refusal
   pub after : Problem
   pub forward : Forward shop sheet n x before answer after
 
 -- A call for each step from step number `n` on, each at the record that the one before it left, up to the first that is refused.
 unfoldable pub Calls : List ℕ → List ℕ → ℕ → Problem → List Step → Type 0
 Calls shop sheet n b [] = Unit {0}
-Calls shop sheet n b (x ∷ xs) = (c : Call shop sheet n x b) × (c .answer ≡ 0 → Calls shop sheet (suc n) (c .after) xs)
+Calls shop sheet n b (x ∷ xs) = (c : Call shop sheet n x b) × (c .answer .number ≡ 0 → Calls shop sheet (suc n) (c .after) xs)
 
--- Where step `n` answers 0 it goes on as said; any other number is shown, at that step.
-unfoldable pub onward : ℕ → (answer : ℕ) → (answer ≡ 0 → Outcome) → Outcome
-onward n zero next = next refl
-onward n (suc number) next = stopped (suc number) n
+-- Where a step answers 0 it goes on as said; at any other number that is all.
+unfoldable pub onward : {A : Type 0} → A → (number : ℕ) → (number ≡ 0 → A) → A
+onward here zero next = next refl
+onward here (suc number) next = here
 
--- What they show: the first number that is not 0, and its step; or, after the last step, with nothing waiting the moves that are
--- actions and the record's state, and else 33.
+-- What they show: the first number that is not 0, at its step; or, after the last step, with nothing waiting what the moves did and the
+-- record's state, and else 33.
 unfoldable pub shownBy : (shop sheet : List ℕ) (n : ℕ) (b : Problem) (xs : List Step) → Calls shop sheet n b xs → Outcome
 unfolding Calls
-shownBy shop sheet n b [] cs = ended n (b .atoms) (listOf shop sheet (b .waiting))
+shownBy shop sheet n b [] cs = ended n (problemIn shop sheet b)
 shownBy shop sheet n b (x ∷ xs) cs =
-    onward n (cs .0 .answer)
-    (λ e. prepend (actionMoves (length (domain shop .actions)) (x .move ∷ [])) (shownBy shop sheet (suc n) (cs .0 .after) xs (cs .1 e)))
+    onward (stopped (placed n (refusalOf (cs .0 .answer)))) (cs .0 .answer .number)
+    (λ e. prepend (deedOf (problemIn shop sheet b) (x .place) (moveOf (domain shop) (x .move))) (shownBy shop sheet (suc n) (cs .0 .after) xs (cs .1 e)))
 
--- The first record of an order: the state and the waiting list at first.
-pub record First (shop sheet : List ℕ) (b : Problem) : Type 0 where
-  pub state : b .atoms ≡ startOf (order sheet)
-  pub waiting : listOf shop sheet (b .waiting) ≡ goalsOf (order sheet)
-  pub within : b .waiting .count ≤ mostWaiting
+-- The record that they leave.
+unfoldable pub leftBy : (shop sheet : List ℕ) (n : ℕ) (b : Problem) (xs : List Step) → Calls shop sheet n b xs → Problem
+unfolding Calls
+leftBy shop sheet n b [] cs = b
+leftBy shop sheet n b (x ∷ xs) cs =
+    onward (cs .0 .after) (cs .0 .answer .number) (λ e. leftBy shop sheet (suc n) (cs .0 .after) xs (cs .1 e))
 
--- Stepping through a trace from the first record tells exactly what the replay answers and writes: the same number at the same step,
--- or, with nothing waiting at the end, its state, plan and cost. The display itself shows numbers and a record; plan and cost are those
--- of the moves that it was handed.
-abbrev pub ShowsReplay : Type 0
-ShowsReplay = (shop sheet trace room : List ℕ) (r : Answer) (exit : List ℕ) → InputsPass shop sheet trace room
-    → Called shop sheet trace room r exit
-    → (first : Problem) → First shop sheet first → (cs : Calls shop sheet 0 first (stepsOf trace))
-    → replayedOf r exit ≡ reported (domain shop) (stepCount trace) room (shownBy shop sheet 0 first (stepsOf trace) cs)
+-- On sheets that pass with room enough, from the order's first record.
+pub record ShowsReplay (shop sheet trace room : List ℕ) (c : Replayed) (b : Problem) (cs : Calls shop sheet 0 b (stepsOf trace)) : Type 0 where
+  -- Stepping through a trace tells exactly what the replay answers and writes: the same refusal at the same step, or, with nothing waiting
+  -- at the end, its state, plan and cost. The display itself shows refusals and a record; plan and cost are those of the moves that it was
+  -- handed.
+  pub tells : c ≡ reported (domain shop) (stepCount trace) room (shownBy shop sheet 0 b (stepsOf trace) cs)
+  -- The record left is the problem that the steps before the place answered lead to: refused, all steps before that which is refused;
+  -- accepted, or refused by 33, all.
+  pub leaves : Reached (rulesOf shop) (problemOf (order sheet)) (take (c .answer .refusal .place) (stepsOf trace))
+      (problemIn shop sheet (leftBy shop sheet 0 b (stepsOf trace) cs))
+
+abbrev pub DisplayShowsReplay : Type 0
+DisplayShowsReplay = (shop sheet trace room : List ℕ) (c : Replayed) → InputsPass shop sheet trace room → c ≡ replay shop sheet trace room
+    → (b : Problem) → problemIn shop sheet b ≡ problemOf (order sheet) → (cs : Calls shop sheet 0 b (stepsOf trace))
+    → ShowsReplay shop sheet trace room c b cs

@@ -1,6 +1,7 @@
 // The display's record, moved forward by one step where it is held. Document 01, "How a derivation runs": "a stepping display moves one
 // record of atoms and waiting goals forward where it is held ... A refused step gives its number and leaves the record unchanged."
 use network::waiting::Place;
+use reading::refusal::Refusal;
 use steps::problem::Problem;
 use steps::problem::Stepped;
 use steps::step;
@@ -9,17 +10,11 @@ ghost use Prim.Native.Nat.{_≤_, _<_};
 ghost use Rattle.network.specs.Tables.{Indexed};
 ghost use Rattle.display.specs.Forward.{Forward};
 
-// What a step by value comes to: its number, and the record after it.
-pub struct Shown {
-    pub number: u16,
-    pub problem: Problem,
-}
-
-// The number that the step answers, 0 when it is taken.
-fn number_of(stepped: Stepped) -> u16
-    ensures { λ r. ⌜ r ≡ stepped .number ⌝ }
+// The question that refuses the step, its number 0 when it is taken.
+fn refusal_of(stepped: Stepped) -> Refusal
+    ensures { λ r. ⌜ r ≡ stepped .refusal ⌝ }
 {
-    stepped.number
+    stepped.refusal
 }
 
 // The record after the step; refused, the one before it.
@@ -29,7 +24,7 @@ fn record_of(stepped: Stepped) -> Problem
     stepped.problem
 }
 
-// The step at its number in the trace. It answers the number of the first question that fails, 0 when the step is taken.
+// The step at its number in the trace. It answers the first question that fails, its number 0 when the step is taken.
 pub fn step_forward<'a>(
     bench: &mut Problem,
     shop: &'a [u16],
@@ -39,7 +34,7 @@ pub fn step_forward<'a>(
     number: u16,
     mv: u16,
     place: Place,
-) -> u16
+) -> Refusal
     requires { ⌜ Indexed (now shop) (now order) (now ends) (now starts) ⌝ }
     requires { ⌜ (now bench .waiting .count ≤ 64) × (number < 65535) ⌝ }
     ensures { λ r. ⌜ Forward (now (shop .entry)) (now (order .entry)) number (record { move = mv; place = place .0 }) (now (bench .entry)) r (now (bench .exit)) ⌝ }
@@ -47,14 +42,14 @@ pub fn step_forward<'a>(
     let problem = *bench;
     let stepped = step::step(shop, order, ends, starts, problem, number, mv, place);
     *bench = record_of(stepped);
-    number_of(stepped)
+    refusal_of(stepped)
 }
 
 // The two put together.
-fn made(number: u16, problem: Problem) -> Shown
-    ensures { λ r. ⌜ (r .number ≡ number) × (r .problem ≡ problem) ⌝ }
+fn made(refusal: Refusal, problem: Problem) -> Stepped
+    ensures { λ r. ⌜ (r .refusal ≡ refusal) × (r .problem ≡ problem) ⌝ }
 {
-    Shown { number, problem }
+    Stepped { refusal, problem }
 }
 
 // The same on a record that is handed over and handed back, for covered functions, which hold no reference to a record.
@@ -67,12 +62,12 @@ pub fn show_step<'a>(
     number: u16,
     mv: u16,
     place: Place,
-) -> Shown
+) -> Stepped
     requires { ⌜ Indexed (now shop) (now order) (now ends) (now starts) ⌝ }
     requires { ⌜ (problem .waiting .count ≤ 64) × (number < 65535) ⌝ }
-    ensures { λ r. ⌜ Forward (now (shop .entry)) (now (order .entry)) number (record { move = mv; place = place .0 }) problem (r .number) (r .problem) ⌝ }
+    ensures { λ r. ⌜ Forward (now (shop .entry)) (now (order .entry)) number (record { move = mv; place = place .0 }) problem (r .refusal) (r .problem) ⌝ }
 {
     let mut bench = problem;
-    let answer = step_forward(&mut bench, shop, order, ends, starts, number, mv, place);
-    made(answer, bench)
+    let refusal = step_forward(&mut bench, shop, order, ends, starts, number, mv, place);
+    made(refusal, bench)
 }

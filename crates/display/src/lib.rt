@@ -2,4 +2,3 @@
 // No public call: its record must come from checked sheets (`replay::first::prepared`). Its caller owes that the record, the sheets and
 // the tables belong together, and that no two steps that are taken have one number.
 pub mod forward;
-pub mod through;

@@ -214,8 +214,8 @@ module _ (v : tie.After-decide Inv-loop2 μ-loop2 Inv-loop μ-loop) where
       unfolding moved deedOf
       acts s′ z price q small =
           let c =
-              takes .comes i ∙ ap (λ (x : Move). taken (deedOf P place (knownOf x)) (moved (domain shop) i P place (knownOf x))) a
-              ∙ ap (λ (x : State). taken (Run.takes k) (record { state = x; waiting = w })) (sym z)
+          takes .comes i ∙ ap (λ (x : Move). taken (deedOf P place (knownOf x)) (moved (domain shop) i P place (knownOf x))) a
+          ∙ ap (λ (x : State). taken (Run.takes k) (record { state = x; waiting = w })) (sym z)
           in (
             run-acts shop trace (start .pre .1 .0 .0) P₀ i P (here .loop .count) (here .loop .cost) (here .loop .inv .0)
                 more move place move-is place-is k (record { state = s′; waiting = w }) price c
