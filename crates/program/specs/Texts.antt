@@ -37,7 +37,7 @@ lines (k ∷ plan) = ended 10 k ++ lines plan
 
 unfoldable pub textOf : Replay.Replayed → List ℕ
 textOf r =
-    heading (r .answer .number) (r .answer .place) (r .answer .count) (r .answer .cost) ++ lines (take (r .answer .count) (r .room))
+    heading (r .answer .refusal .number) (r .answer .refusal .place) (r .answer .count) (r .answer .cost) ++ lines (take (r .answer .count) (r .room))
 
 -- At most two bytes past the largest sheet are read, one with so many words before its rows or steps, and so many of these.
 abbrev pub bytesRead : ℕ → ℕ → ℕ

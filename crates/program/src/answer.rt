@@ -9,12 +9,13 @@ use sheets::check::Trace;
 ghost use mathlib.Core.Path.{_≡_};
 ghost use Prim.Native.Nat.{_≤_};
 ghost use lib.ListN.{length, take};
-ghost use Rattle.replay.specs.Answers.{Called};
+ghost use Rattle.hgn.specs.Replay as Replay;
+ghost use Rattle.replay.specs.Answers.{replayedOf};
 ghost use Rattle.program.specs.Texts.{shopWords, orderWords, traceWords, printed};
 
 // The replay of what three files say.
 fn replay_bytes(shop: &[u8], order: &[u8], trace: &[u8], plan: &mut [u16]) -> Answer
-    ensures { λ r. ⌜ Called (shopWords (now (shop .entry))) (orderWords (now (order .entry))) (traceWords (now (trace .entry))) (now (plan .entry)) r (now (plan .exit)) ⌝ }
+    ensures { λ r. ⌜ replayedOf r (now (plan .exit)) ≡ Replay.replay (shopWords (now (shop .entry))) (orderWords (now (order .entry))) (traceWords (now (trace .entry))) (now (plan .entry)) ⌝ }
 {
     let mut shop_room = [0u16; file::SHOP_BYTES / 2];
     let mut order_room = [0u16; file::ORDER_BYTES / 2];
@@ -36,6 +37,7 @@ pub fn write_answer(shop: &[u8], order: &[u8], trace: &[u8], room: &mut [u8]) ->
     let mut plan = [0u16; Trace::MOST_STEPS as usize];
     let answer = replay_bytes(shop, order, trace, &mut plan);
     let count = answer.count;
-    let end = text::put_heading(room, answer.number, answer.place, count, answer.cost);
+    let refusal = answer.refusal;
+    let end = text::put_heading(room, refusal.number, refusal.place, count, answer.cost);
     text::put_lines(room, end, front_words(&plan, count as usize))
 }

@@ -1,2 +1,3 @@
--- How the code's answers stand for the definitions of `hgn`.
+-- How the code's answers stand for the definitions of `hgn`, and what is promised of them.
 pub mod Answers
+pub mod Demands

@@ -11,13 +11,13 @@ use Rattle.program.proofs.answer.write_answer.Tie as tie
 
 put-lines-requires : tie.Need-put-lines-requires
 put-lines-requires c κs =
-    let r = c .before .before .before .before .before .before .before .before .replay-bytes in
-    omega (arith, ap length (c .front-words .ensures), length-take (r .result .count) (r .last .1 .1 .1 .0), c .before .before .before .before .before .before .before .plan2 .given, length-replicate {A = ℕ} 4096 0, c .before .before .before .before .before .put-heading .ensures .0, c .before .before .before .before .room .given)
+    let r = c .before .before .before .before .before .before .before .before .before .replay-bytes in
+    omega (arith, ap length (c .front-words .ensures), length-take (r .result .count) (r .last .1 .1 .1 .0), c .before .before .before .before .before .before .before .before .plan2 .given, length-replicate {A = ℕ} 4096 0, c .before .before .before .before .before .put-heading .ensures .0, c .before .before .before .before .room .given)
 
 returns : tie.Need-returns
 unfolding printed
 returns c =
-    text-is _ _ _ _ _ _ _ _ _ (c .before .before .before .before .before .before .before .before .before .before .before .replay-bytes .ensures) (c .before .before .before .before .before .before .before .before .put-heading .ensures .1) (c .before .before .before .front-words .ensures) (c .before .before .put-lines .ensures)
+    text-is _ _ _ (c .before .before .before .before .before .before .before .before .before .before .before .before .replay-bytes .ensures) (c .before .before .before .before .before .before .before .before .put-heading .ensures .1) (c .before .before .before .front-words .ensures) (c .before .before .put-lines .ensures)
 
 pub write-answer-spec : {M : Type 1} → statement M
 write-answer-spec =
