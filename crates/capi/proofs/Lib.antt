@@ -1,3 +1,4 @@
--- Laws of a state's bytes and of the words of an answer.
+-- Laws of a state's bytes and of the words of an answer, and the promises of the five calls.
 pub mod Bytes
 pub mod Leaving
+pub mod CallDemands

@@ -1,2 +1,3 @@
--- What the C interface writes.
+-- What the C interface writes, and what is promised of it.
 pub mod Words
+pub mod Demands

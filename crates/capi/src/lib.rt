@@ -10,7 +10,8 @@ ghost use Rattle.hgn.specs.Order.{checkOrder};
 ghost use Rattle.hgn.specs.Trace.{checkTrace};
 ghost use Rattle.hgn.specs.Replay as Replay;
 ghost use Rattle.hgn.specs.Search as Search;
-ghost use Rattle.capi.specs.Words.{verdictWords, stateBytes, ReplayLeft, SearchLeft};
+ghost use Rattle.hgn.specs.Questions.{told};
+ghost use Rattle.capi.specs.Words.{refusalWords, stateBytes, ReplayLeft, SearchLeft};
 
 // A state's atoms as bytes: 1 for an atom that is in, 0 for one that is not.
 fn bytes_of(atoms: [bool; 256]) -> [u8; 256]
@@ -28,28 +29,28 @@ fn bytes_of(atoms: [bool; 256]) -> [u8; 256]
 // Questions 1 to 9.
 #[no_mangle]
 pub extern "C" fn hgn_check_shop(shop: &[u16], answer: &mut [u32; 2])
-    ensures { λ _. ⌜ now (answer .exit) ≡ verdictWords (checkShop (now (shop .entry))) ⌝ }
+    ensures { λ _. ⌜ now (answer .exit) ≡ refusalWords (told (checkShop (now (shop .entry)))) ⌝ }
 {
-    let shop_verdict = check::check_shop(shop);
-    *answer = [shop_verdict.number as u32, shop_verdict.place as u32];
+    let shop_refusal = check::check_shop(shop);
+    *answer = [shop_refusal.number as u32, shop_refusal.place as u32];
 }
 
 // Questions 1 to 9, then 11 to 18.
 #[no_mangle]
 pub extern "C" fn hgn_check_order(shop: &[u16], order: &[u16], answer: &mut [u32; 2])
-    ensures { λ _. ⌜ now (answer .exit) ≡ verdictWords (checkOrder (now (shop .entry)) (now (order .entry))) ⌝ }
+    ensures { λ _. ⌜ now (answer .exit) ≡ refusalWords (told (checkOrder (now (shop .entry)) (now (order .entry)))) ⌝ }
 {
-    let order_verdict = check::check_order(shop, order);
-    *answer = [order_verdict.number as u32, order_verdict.place as u32];
+    let order_refusal = check::check_order(shop, order);
+    *answer = [order_refusal.number as u32, order_refusal.place as u32];
 }
 
 // Questions 1 to 9 and 11 to 18, then 21 to 23.
 #[no_mangle]
 pub extern "C" fn hgn_check_trace(shop: &[u16], order: &[u16], trace: &[u16], answer: &mut [u32; 2])
-    ensures { λ _. ⌜ now (answer .exit) ≡ verdictWords (checkTrace (now (shop .entry)) (now (order .entry)) (now (trace .entry))) ⌝ }
+    ensures { λ _. ⌜ now (answer .exit) ≡ refusalWords (told (checkTrace (now (shop .entry)) (now (order .entry)) (now (trace .entry)))) ⌝ }
 {
-    let trace_verdict = check::check_trace(shop, order, trace);
-    *answer = [trace_verdict.number as u32, trace_verdict.place as u32];
+    let trace_refusal = check::check_trace(shop, order, trace);
+    *answer = [trace_refusal.number as u32, trace_refusal.place as u32];
 }
 
 // The sheets' questions, then 24 to 33. Accepted, the plan stands in the first words of its room.
@@ -67,9 +68,10 @@ pub extern "C" fn hgn_replay<'a>(
     let replayed = replay(shop, order, trace, plan);
     let state = replayed.state;
     let last = state.atoms;
+    let refusal = replayed.refusal;
     *answer = [
-        replayed.number as u32,
-        replayed.place as u32,
+        refusal.number as u32,
+        refusal.place as u32,
         replayed.count as u32,
         replayed.cost,
     ];

@@ -1,6 +1,6 @@
 // The line that a case writes.
 use libc::STDOUT_FILENO;
-use sheets::check::Verdict;
+use reading::refusal::Refusal;
 
 pub fn text(bytes: &[u8]) {
     io::write_all(STDOUT_FILENO, bytes);
@@ -15,9 +15,14 @@ pub fn number(value: u64) {
     digits(value);
 }
 
+// The number and the place of a refusal.
+pub fn refusal(refusal: Refusal) {
+    number(refusal.number as u64);
+    number(refusal.place as u64);
+}
+
 // What a check answers, and the line's end.
-pub fn verdict(answer: Verdict) {
-    number(answer.number as u64);
-    number(answer.place as u64);
+pub fn verdict(answer: Refusal) {
+    refusal(answer);
     text(b"\n");
 }

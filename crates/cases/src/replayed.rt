@@ -56,8 +56,7 @@ fn write_state(atoms: &[bool]) {
 
 fn write_answer(answer: Answer, room: &[u16]) {
     line::text(b":");
-    line::number(answer.number as u64);
-    line::number(answer.place as u64);
+    line::refusal(answer.refusal);
     line::number(answer.count as u64);
     line::number(answer.cost as u64);
     let state = answer.state;

@@ -2,9 +2,9 @@
 // Refused, `: NUMBER PLACE; rest kept`, and the rest is the whole room.
 use crate::line;
 use crate::room;
+use reading::refusal::Refusal;
 use scan::rows::word;
 use search::call::search;
-use sheets::check::Verdict;
 
 // So many words of a room, or none where it has fewer.
 fn part(room: &[u16], from: usize, length: usize) -> &[u16] {
@@ -28,10 +28,9 @@ fn write_trace(room: &[u16], length: u16) {
     room::write_rest(room, 1 + 2 * count);
 }
 
-fn write_answer(answer: Verdict, room: &[u16]) {
+fn write_answer(answer: Refusal, room: &[u16]) {
     line::text(b":");
-    line::number(answer.number as u64);
-    line::number(answer.place as u64);
+    line::refusal(answer);
     if answer.number == 0 {
         write_trace(room, answer.place);
     } else {

@@ -2,7 +2,6 @@
 // after it. A refused step leaves the record as it was: the next one goes on from there, as the same step of the trace.
 use crate::line;
 use display::forward;
-use display::forward::Shown;
 use network::waiting::Place;
 use replay::first;
 use scan::rows::Layout;
@@ -10,6 +9,7 @@ use scan::rows::word;
 use sheets::check::Shop;
 use sheets::check::check_order;
 use steps::problem::Problem;
+use steps::problem::Stepped;
 ghost use mathlib.Core.Path.{_≡_};
 ghost use Prim.Native.Nat.{suc, _+_, _≤_, _<_};
 ghost use lib.ListN.{length};
@@ -19,10 +19,11 @@ ghost use Rattle.hgn.specs.Order.{checkOrder};
 ghost use Rattle.hgn.specs.Questions.{passed};
 ghost use Rattle.network.specs.Tables.{Indexed};
 
-fn write_shown(shown: Shown) {
+fn write_shown(shown: Stepped) {
+    let refusal = shown.refusal;
     let problem = shown.problem;
     let waiting = problem.waiting;
-    line::number(shown.number as u64);
+    line::number(refusal.number as u64);
     line::number(waiting.count as u64);
 }
 
@@ -75,7 +76,8 @@ fn write_steps<'a>(
         );
         write_shown(shown);
         problem = shown.problem;
-        number = next_number(number, shown.number);
+        let refusal = shown.refusal;
+        number = next_number(number, refusal.number);
     }
     line::text(b"\n");
 }

@@ -15,7 +15,7 @@ use Rattle.hgn.specs.Run.{Step, Stepped, Deed, problemOf, refused, taken, stepp
 use Rattle.hgn.specs.Shop.{domain}
 use Rattle.hgn.specs.Order.{order}
 use Rattle.hgn.specs.Trace.{stepCount, stepsOf}
-use Rattle.hgn.specs.Replay.{rulesOf, Replayed, refusal, acceptance, reported, replay}
+use Rattle.hgn.specs.Replay.{rulesOf, Replayed, refusal, acceptance, reported}
 use Rattle.hgn.specs.Readings.{Reached, first, next}
 use Rattle.hgn.proofs.Steps.{taken-deed, taken-passed, step-passed}
 use Rattle.hgn.proofs.Runs.{resumed, run-cons}

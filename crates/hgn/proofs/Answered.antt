@@ -8,7 +8,7 @@ use Rattle.hgn.specs.Questions.{Refusal, Question, firstNo, told}
 use Rattle.hgn.specs.Shop.{shopQuestions, checkShop}
 use Rattle.hgn.specs.Order.{orderQuestions, checkOrder}
 use Rattle.hgn.specs.Trace.{traceQuestions, checkTrace}
-use Rattle.hgn.specs.Search.{isFound, searched, searchQuestions}
+use Rattle.hgn.specs.Search.{searchQuestions}
 use Rattle.hgn.specs.Demands.{AnswersFirst, Demand1}
 use Rattle.hgn.proofs.Firsts.{Numbers, numbers-append, Tells, answers-first, told-tells}
 use Rattle.hgn.proofs.Numbers.{shop-numbers, of-order, of-trace, replay-numbers, not-zero}

@@ -1,12 +1,12 @@
 -- Counted among the limit throughout: a run within what the others leave of it. Assumes nothing.
-use Prim.Native.Nat.{ℕ, suc, _+_, _-_, _≤_}
+use Prim.Native.Nat.{ℕ, _+_, _-_, _≤_}
 use native.Mathlib.Omega.{arith}
 use mathlib.Core.Path.{_≡_, refl, sym, ap, ap₂, _∙_, subst}
-use mathlib.Core.List.{List, [], _∷_, _++_, append-assoc, append-nil}
+use mathlib.Core.List.{List, [], _∷_, _++_, append-assoc}
 use lib.ListN.{length, take, drop, take-append-drop}
 use lib.Seq.{take-append-seam}
 use Rattle.hgn.specs.State.{State}
-use Rattle.hgn.specs.Run.{Step, Problem, Rules, limited, Deed, taken, stepped, accepted, runBy, run}
+use Rattle.hgn.specs.Run.{Step, Problem, Rules, limited, Deed, stepped, accepted, runBy, run}
 use Rattle.hgn.specs.Readings.{Reached, first, next}
 use Rattle.hgn.specs.Demands.{Counted}
 use Rattle.hgn.proofs.Steps.{taken-problem}

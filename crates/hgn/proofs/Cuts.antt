@@ -4,7 +4,7 @@ use native.Mathlib.Omega.{arith}
 use native.Mathlib.Nat.{add-zero, zero-add, add-suc, suc-add, le-of-suc-le-suc, not-suc-le-zero}
 use mathlib.Core.Path.{_≡_, refl, sym, ap, ap₂, _∙_, subst, subst₂}
 use mathlib.Core.Bool.{Bool, true, false}
-use mathlib.Core.List.{List, [], _∷_, _++_, map, map-id, append-assoc, List·Memᴰ, List·Memᴰ·head, List·Memᴰ·tail, Memᴰ·append-left}
+use mathlib.Core.List.{List, [], _∷_, _++_, map, map-id, List·Memᴰ, List·Memᴰ·head, List·Memᴰ·tail, Memᴰ·append-left}
 use mathlib.Core.Option.{none}
 use lib.Dec.{ltb}
 use lib.ListN.{length, take, drop, length-append, length-map}
@@ -21,20 +21,16 @@ use Rattle.hgn.proofs.Tests.{false-not-true, lt-below}
 use Rattle.hgn.proofs.Steps.{took, refused≢taken, taken-deed, taken-problem}
 use Rattle.hgn.proofs.Embedding.{renamedDeed, carried, step-carried}
 use Rattle.hgn.proofs.Runs.{Resumes, resumes, resumed-accepts, ended-nothing, ended-empty, empty-refuses, accepted-deeds, accepted-state}
-use Rattle.hgn.proofs.Front.{Front, of-order, Back, BackGoal, front-embeds, front-blocks, front-step}
+use Rattle.hgn.proofs.Rooted.{of-order, rooted-step}
+use Rattle.hgn.proofs.Front.{Front, OfFirst, Back, BackGoal, front-embeds, front-blocks}
 use Rattle.hgn.proofs.Renaming.{raised-injective, rename, goals-renamed, later, later-accepted, plan-renamed, run-renamed}
 use Rattle.hgn.proofs.Checked.{Numbered, order-numbered, order-goals}
-use Rattle.hgn.proofs.Waiting.{length-enter}
+use Rattle.hgn.proofs.Waiting.{length-enter, goals-length, goal-mem}
 use Rattle.hgn.proofs.Costs.{cost-append}
 
 -- A place behind the first part is one of the second.
 behind : (w v : List Waiting) (p : ℕ) → length w ≤ p → p < length (w ++ v) → List·Memᴰ (goalAt (w ++ v) p) v
-behind [] v p h k = inside v p k
-  where
-    inside : (v : List Waiting) (p : ℕ) → p < length v → List·Memᴰ (goalAt v p) v
-    inside [] p k = absurd (not-suc-le-zero k)
-    inside (x ∷ v) zero k = List·Memᴰ·head refl
-    inside (x ∷ v) (suc p) k = List·Memᴰ·tail (inside v p (le-of-suc-le-suc k))
+behind [] v p h k = goal-mem v p k
 behind (x ∷ w) v zero h k = absurd (not-suc-le-zero h)
 behind (x ∷ w) v (suc p) h k = behind w v p (le-of-suc-le-suc h) (le-of-suc-le-suc k)
 
@@ -142,7 +138,7 @@ module _ (g : ℕ) (r : Rules) (v : List Waiting) (bk : Back g v) where
       let f = resumes (stepped wide) n (with s ((q ∷ rest) ++ v)) x xs deeds last e in
       let u = unjoin-step n s q rest x (f .deed) (f .left) fr (f .first) in
       longer f (u .0) (u .1)
-      (split xs (suc n) (u .0 .state) (u .0 .waiting) (f .rest) last (front-step g r n (with s (q ∷ rest)) x (f .deed) (u .0) fr (u .1))
+      (split xs (suc n) (u .0 .state) (u .0 .waiting) (f .rest) last (rooted-step (OfFirst g) r n (with s (q ∷ rest)) x (f .deed) (u .0) fr (u .1))
       (ap (λ (U : Problem). run wide (suc n) U xs) (sym (u .2)) ∙ f .goes-on))
     where
       longer : (f : Resumes (stepped wide) n (with s ((q ∷ rest) ++ v)) x xs deeds last) (P′ : Problem)
@@ -177,7 +173,7 @@ module _ (g : ℕ) (r : Rules) (v : List Waiting) (bk : Back g v) where
       resumed-accepts (stepped wide) n (with s ((q ∷ rest) ++ v)) x xs (f .deed) (with (f .left .state) (f .left .waiting ++ v)) (f .rest ++ p₂) last
       (join-step n s q rest x (f .deed) (f .left) fr (f .first))
       (glue xs c (suc n) (f .left .state) (f .left .waiting) (f .rest) p₂ s₁ last
-      (front-step g r n (with s (q ∷ rest)) x (f .deed) (f .left) fr (f .first)) (le-of-suc-le-suc h) (f .goes-on)
+      (rooted-step (OfFirst g) r n (with s (q ∷ rest)) x (f .deed) (f .left) fr (f .first)) (le-of-suc-le-suc h) (f .goes-on)
       (ap (λ (k : ℕ). run wide k (with s₁ v) (drop c xs)) (suc-add n c ∙ sym (add-suc n c)) ∙ b))
       ∙ ap (λ (l : List Deed). accepted (l ++ p₂) last) (sym (f .whole))
 
@@ -217,7 +213,7 @@ front-start : (g i : ℕ) (nodes : List Node) → i + length nodes ≤ g → Num
 unfolding enter
 front-start g i [] h u = tt
 front-start g i (n ∷ nodes) h u =
-    (of-order refl (omega arith) (λ k m. omega (arith, u .0 k m)), front-start g (suc i) nodes (omega arith) (u .1))
+    (of-order refl (record { number = omega arith; afters = λ k m. omega (arith, u .0 k m) }), front-start g (suc i) nodes (omega arith) (u .1))
 
 back-start : (g i : ℕ) (nodes : List Node) → g ≤ i → Back g (enter order none i (map (raised g) nodes))
 unfolding enter raised
@@ -271,10 +267,6 @@ module _ (r : Rules) (a b : Order) (numbered : Numbered 0 (a .goals)) (few : len
       ap₂ (λ (k : ℕ) (l : List Waiting). run r k (with s l) ys) (sym (add-zero c))
       (ap (λ (k : ℕ). enter order none k (map (raised (length (a .goals))) (b .goals))) (sym (add-zero (length (a .goals)))) ∙ sym (goals-renamed (length (a .goals)) (λ k. c + k) 0 (b .goals)))
       ∙ run-renamed (length (a .goals)) (λ k. c + k) (raised-injective c) r ys 0 (λ k h. add-suc c k) (with s (enter order none 0 (b .goals)))
-
-  goals-length : (o : Order) → length (goalsOf o) ≡ length (o .goals)
-  unfolding goalsOf
-  goals-length o = length-enter order none 0 (o .goals)
 
   whole-length : length (goalsOf (join a b)) ≡ length (a .goals) + length (b .goals)
   whole-length = ap length join-goals ∙ length-append (goalsOf a) v ∙ ap₂ _+_ (goals-length a) v-length

@@ -1,7 +1,7 @@
 -- The run accepts exactly the derivations of Definition 1, and a derivation's plan is no longer than its steps. Assumes nothing.
 use Prim.Native.Nat.{ℕ, suc, _+_, _≤_, _<_}
 use native.Mathlib.Omega.{arith}
-use mathlib.Core.Path.{_≡_, refl, sym, ap, ap₂, _∙_, subst, subst₂}
+use mathlib.Core.Path.{_≡_, refl, sym, ap, _∙_, subst, subst₂}
 use mathlib.Core.Bool.{true}
 use mathlib.Core.List.{List, [], _∷_}
 use lib.ListN.{length, getD}
@@ -9,9 +9,9 @@ use Rattle.hgn.specs.Lists.{At}
 use Rattle.hgn.specs.Meaning.{Domain, Action, Method, networkOf}
 use Rattle.hgn.specs.State.{State, EntailsAll, Satisfies, γ}
 use Rattle.hgn.specs.Network.{Waiting, step, free, goalAt, noGoal, released, decomposed}
-use Rattle.hgn.specs.Run.{Step, firstMethod, Move, release, act, use-method, moveOf, actionAt, noAction, noMethod, Problem, Rules, Decided, Deed, planOf, stepped, Outcome, accepted, prepend, runBy, run}
+use Rattle.hgn.specs.Run.{Step, firstMethod, Move, release, act, use-method, moveOf, actionAt, noAction, noMethod, Problem, Rules, Decided, Deed, planOf, stepped, accepted, runBy, run}
 use Rattle.hgn.specs.Run as Run
-use Rattle.hgn.specs.Definition1.{Unconstrained, Stands, Derivation, base, satisfaction, application, decomposition}
+use Rattle.hgn.specs.Definition1.{Stands, Derivation, base, satisfaction, application, decomposition}
 use Rattle.hgn.specs.Readings.{AcceptedIsDerivation}
 use Rattle.hgn.proofs.Tests.{at-mem, at-getD, at-lt, at-of-lt, all-hold-iff, formula-holds-iff, free-iff-unconstrained}
 use Rattle.hgn.proofs.Steps.{Moved, by-release, by-action, by-method, took, takes}

@@ -8,7 +8,7 @@ use mathlib.Core.Path.{_≡_, refl, sym, ap, ap₂, _∙_}
 use mathlib.Core.Bool.{Bool, true, false, not, _||_, or-false}
 use mathlib.Core.List.{List, [], _∷_, _++_, map, map-append, append-assoc, List·Memᴰ, List·Memᴰ·head, List·Memᴰ·tail}
 use mathlib.Core.Option.{some}
-use lib.Dec.{leb, ltb}
+use lib.Dec.{leb}
 use lib.ListN.{length, getD, take, drop, length-append, length-map, List·getD-map, List·getD-append}
 use lib.Seq.{take-append-le, drop-append-le}
 use borrow.Author.Tests.{lt-ltb, le-leb, lt-leb, leb-true, leb-false}
@@ -18,7 +18,7 @@ use Rattle.hgn.specs.Questions as Questions
 use Rattle.hgn.specs.Meaning.{Node, networkOf}
 use Rattle.hgn.specs.State.{formulaHolds}
 use Rattle.hgn.specs.Network.{Waiting, step, comesAfter, free, anyFree, enter, goalAt, noGoal, released, decomposed}
-use Rattle.hgn.specs.Run.{Step, Move, release, act, use-method, unknown, moveOf, known, actionAt, methodAt, Problem, Rules, limited, moved, ownQuestions, stepQuestions, Deed, releases, takes, uses, deedOf, Stepped, refused, taken, stepped}
+use Rattle.hgn.specs.Run.{Step, Move, release, act, use-method, unknown, moveOf, actionAt, methodAt, Problem, Rules, limited, moved, ownQuestions, stepQuestions, Deed, releases, takes, uses, deedOf, Stepped, refused, taken, stepped}
 use Rattle.hgn.proofs.Tests.{any-append, at-mem, at-of-lt}
 use Rattle.hgn.proofs.Steps.{step-refused, step-passed}
 

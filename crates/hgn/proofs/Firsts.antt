@@ -1,10 +1,10 @@
--- The first no of a list of questions: one question at a time, of two lists, at a place, by its number, and xs a proposition.
+-- The first no of a list of questions: one question at a time, of two lists, at a place, by its number, and as a proposition.
 -- Assumes nothing.
-use Prim.Native.Nat.{ℕ, suc, _+_}
+use Prim.Native.Nat.{ℕ, _+_}
 use native.Mathlib.Omega.{arith}
 use mathlib.Core.Path.{_≡_, refl, sym, ap, _∙_, subst}
-use mathlib.Core.Bool.{Bool, true, false, cond, false≢true}
-use mathlib.Core.Logic.{_↔_, _≢_}
+use mathlib.Core.Bool.{Bool, true, false, cond}
+use mathlib.Core.Logic.{_≢_}
 use mathlib.Core.List.{List, [], _∷_, _++_, map}
 use Rattle.hgn.specs.Questions.{Refusal, Question, _askedAt_, placed, allAt, Verdict, passed, refused, firstNo, told, FirstNo, here, later, AllYes, none, more}
 use Rattle.hgn.specs.Demands.{AnswersFirst}
@@ -95,7 +95,7 @@ module _ (H : ℕ → Type 0) where
       go true ih e = ih e
       go false ih e = let z : q .refusal ≡ r = cc in subst (λ (t : Refusal). H (t .number)) z (h .0)
 
--- The first no xs a proposition.
+-- The first no as a proposition.
 
 pub first-found : {qs : List Question} {r : Refusal} → FirstNo qs r → firstNo qs ≡ refused r
 first-found (here {q} {qs} e) = first-no q qs e

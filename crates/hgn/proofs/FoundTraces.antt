@@ -8,7 +8,7 @@ use lib.Seq.{take-append-seam, drop-append-seam}
 use Rattle.hgn.specs.Run.{Step}
 use Rattle.hgn.specs.Questions.{passed}
 use Rattle.hgn.specs.Order.{checkOrder}
-use Rattle.hgn.specs.Trace.{sizeWords, mostSteps, stepsOf, traceWords}
+use Rattle.hgn.specs.Trace.{sizeWords, mostSteps, traceWords}
 use Rattle.hgn.specs.Search.{written}
 use Rattle.hgn.specs.Demands.{Finds}
 use Rattle.hgn.proofs.Passed.{passed-trace}

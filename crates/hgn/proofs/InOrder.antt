@@ -1,22 +1,20 @@
 -- The order of the questions, read by neighbours. Assumes nothing.
 use Prim.Native.Nat.{ℕ, _+_, _*_, _≤_, _<_}
-use native.Mathlib.Omega.{arith}
-use mathlib.Core.Path.{_≡_, refl, sym, ap, _∙_}
-use mathlib.Core.Bool.{Bool, true, false}
+use mathlib.Core.Path.{_≡_, refl, ap, _∙_}
+use mathlib.Core.Bool.{false}
 use mathlib.Core.Logic.{_≢_}
 use mathlib.Core.List.{List, [], _∷_, _++_}
-use lib.Dec.{eqb, leb, ltb}
+use lib.Dec.{leb}
 use lib.ListN.{length}
 use borrow.Author.Tests.{le-leb, lt-leb, lt-ltb, le-ltb, ne-eqb}
-use Rattle.hgn.specs.Questions.{Refusal, _asks_, passed, firstNo}
+use Rattle.hgn.specs.Questions.{Refusal, _asks_, firstNo}
 use Rattle.hgn.specs.Questions as Questions
-use Rattle.hgn.specs.Network.{free, anyFree, goalAt}
-use Rattle.hgn.specs.Run.{Step, release, act, use-method, unknown, moveOf, known, Problem, Rules, moved, ownQuestions, stepQuestions, stepped}
+use Rattle.hgn.specs.Run.{Step, known, Problem, Rules, ownQuestions, stepQuestions, stepped}
 use Rattle.hgn.specs.Order.{checkOrder, orderQuestions}
 use Rattle.hgn.specs.Shop.{shopQuestions}
 use Rattle.hgn.specs.Trace.{sizeWords, stepCount, mostSteps, traceQuestions, checkTrace}
 use Rattle.hgn.specs.Replay.{Replayed, refusal, inputQuestions, checkReplay, replay}
-use Rattle.hgn.specs.Search.{mostDepth, isFound, searched, Searched, noTrace, searchQuestions, search}
+use Rattle.hgn.specs.Search.{Searched, noTrace, searchQuestions, search}
 use Rattle.hgn.specs.Readings.{RefusedBy, StepOrder, ReplayOrder, SearchOrder, QuestionsInOrder}
 use Rattle.hgn.proofs.Firsts.{append-passed, append-refused}
 use Rattle.hgn.proofs.Steps.{some-free, step-refused}

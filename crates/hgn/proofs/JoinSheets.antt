@@ -78,9 +78,9 @@ join-length a b =
       length-map (b .start) (row 12),
     )
 
-goals-length : (a b : Order) → length (join a b .goals) ≡ length (a .goals) + length (b .goals)
+joined-goals : (a b : Order) → length (join a b .goals) ≡ length (a .goals) + length (b .goals)
 unfolding join
-goals-length a b =
+joined-goals a b =
     omega
     (arith, length-append (a .goals) (map (raised (length (a .goals))) (b .goals)), length-map (b .goals) (raised (length (a .goals))))
 
@@ -106,7 +106,7 @@ joined shop first second one two goals few =
       passes =
           words-pass-order shop (join a b) (shop-of-order shop first one)
           record {
-            few-goals = omega (arith, goals-length a b);
+            few-goals = omega (arith, joined-goals a b);
             few-rows = omega (arith, join-length a b, order-length shop first one, order-length shop second two);
             start = p .start;
             goals = network-join a b (p .goals) (q .goals);

@@ -23,6 +23,7 @@ pub mod Names
 pub mod Reached
 pub mod Orders
 pub mod Embedding
+pub mod Rooted
 pub mod Front
 pub mod Renaming
 pub mod Cuts

@@ -8,7 +8,7 @@ use Rattle.hgn.specs.Questions.{allAt}
 use Rattle.hgn.specs.Rows.{Row, rowQuestions}
 use Rattle.hgn.specs.Tag.{Context, Position, advance}
 use Rattle.hgn.specs.Meaning.{Method}
-use Rattle.hgn.specs.Run.{Step, Move, release, act, use-method, unknown, moveOf, Problem, Rules, moved, ownQuestions, stepQuestions, endQuestions, runQuestions}
+use Rattle.hgn.specs.Run.{Step, Move, release, act, use-method, unknown, moveOf, Problem, Rules, ownQuestions, stepQuestions, endQuestions, runQuestions}
 use Rattle.hgn.specs.Shop.{methodQuestions, shopEndQuestions, shopQuestions}
 use Rattle.hgn.specs.Order.{orderEndQuestions, orderQuestions}
 use Rattle.hgn.specs.Trace.{traceQuestions}

@@ -7,9 +7,8 @@ use mathlib.Core.List.{List, [], _∷_, List·Memᴰ}
 use mathlib.Core.Option.{Option, none, some, Option·map, map-eq-none-iff, map-eq-some-iff, Option·some-injective, Option·none-ne-some, Option·some-ne-none}
 use lib.ListN.{length}
 use Rattle.hgn.specs.Lists.{firstSome}
-use Rattle.hgn.specs.State.{State}
 use Rattle.hgn.specs.Network.{Waiting}
-use Rattle.hgn.specs.Run.{Step, Problem, Rules, Deed, Stepped, refused, taken, stepped, ended, runBy, run}
+use Rattle.hgn.specs.Run.{Step, Problem, Rules, Deed, Stepped, refused, taken, stepped, runBy}
 use Rattle.hgn.specs.Search.{Earlier, lower-place, lower-move, same-step, candidates, noSteps}
 use Rattle.hgn.proofs.Runs.{stopped≢accepted, ended-nothing, ended-waiting}
 use Rattle.hgn.proofs.Candidates.{Before, first-member, none-all, is-candidate, first-candidate}

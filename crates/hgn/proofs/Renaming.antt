@@ -23,7 +23,7 @@ use Rattle.hgn.proofs.Tests.{any-append, below-lt}
 use Rattle.hgn.proofs.Names.{Before, Fresh}
 use Rattle.hgn.proofs.Steps.{step-refused}
 use Rattle.hgn.proofs.Embedding.{Embeds, renamedDeed, carried, step-carried, any-map, any-cong, any-none}
-use Rattle.hgn.proofs.Runs.{resumed, run-cons, ended-nothing, ended-waiting, stopped≢accepted, accepted-deeds, accepted-state}
+use Rattle.hgn.proofs.Runs.{resumed, run-cons, stopped≢accepted, accepted-deeds, accepted-state}
 
 -- Different numbers with different names.
 abbrev pub Injective : (ℕ → ℕ) → Type 0

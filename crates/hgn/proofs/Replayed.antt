@@ -18,7 +18,7 @@ use Rattle.hgn.specs.Trace.{stepCount, step, stepsOf, traceQuestions, ch
 use Rattle.hgn.specs.Replay.{rulesOf, Replayed, refusal, acceptance, reported, inputQuestions, checkReplay, replay, replayQuestions}
 use Rattle.hgn.specs.Demands.{Refuses, Derives, InputsPass, Accepts, Demand2}
 use Rattle.hgn.proofs.Tests.{strict-decided}
-use Rattle.hgn.proofs.Firsts.{refused≢passed, passed-cons, append-passed, append-refused, passed-append, verdictAt, first-at, refused-number, Tells, tells-refusal, tells-passed}
+use Rattle.hgn.proofs.Firsts.{passed-cons, append-passed, append-refused, passed-append, verdictAt, first-at, refused-number, Tells, tells-refusal, tells-passed}
 use Rattle.hgn.proofs.Numbers.{run-numbers, input-numbers, not-zero}
 use Rattle.hgn.proofs.Steps.{step-refused, step-passed}
 use Rattle.hgn.proofs.Runs.{resumed, run-cons}

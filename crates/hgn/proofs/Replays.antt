@@ -1,7 +1,7 @@
 -- Demand 3 of replays: the replay on the join, and those of the two parts of a cut. Assumes nothing.
 use Prim.Native.Nat.{ℕ, _+_, _-_, _≤_, _<_}
 use native.Mathlib.Omega.{arith}
-use mathlib.Core.Path.{_≡_, refl, sym, ap, ap₂, _∙_, subst}
+use mathlib.Core.Path.{_≡_, refl, sym, ap, ap₂, _∙_}
 use mathlib.Core.Bool.{Bool, true, false}
 use mathlib.Core.Logic.{_↔_}
 use mathlib.Core.List.{List, _++_}
@@ -15,17 +15,17 @@ use Rattle.hgn.specs.Rows.{mostRows}
 use Rattle.hgn.specs.State.{State, mostAtoms}
 use Rattle.hgn.specs.Network.{Waiting, goalsOf, enter, mostWaiting}
 use Rattle.hgn.specs.Network as Network
-use Rattle.hgn.specs.Run.{Step, Problem, problemOf, problemFrom, startOf, limited, Deed, planOf, Outcome, accepted, run}
-use Rattle.hgn.specs.Join.{Accepted, raised, join}
+use Rattle.hgn.specs.Run.{problemOf, problemFrom, startOf, limited, run}
+use Rattle.hgn.specs.Join.{raised, join}
 use Rattle.hgn.specs.Shop.{domain}
 use Rattle.hgn.specs.Order.{order, rowCount, checkOrder}
 use Rattle.hgn.specs.Trace.{stepCount, stepsOf, checkTrace}
-use Rattle.hgn.specs.Replay.{rulesOf, Replayed, replay}
+use Rattle.hgn.specs.Replay.{rulesOf, replay}
 use Rattle.hgn.specs.Demands.{Accepts, OnJoin, JoinRule, Call, Accepting, planIn, Whole, Parts, Counted, BothAccept, OneAfterOther, CutAt, JoinOfReplays, Demand3OfReplays}
 use Rattle.hgn.proofs.Tests.{strict-decided}
 use Rattle.hgn.proofs.Passed.{TracePassed, trace-passed, passed-trace}
 use Rattle.hgn.proofs.Checked.{order-of-trace, shop-of-order, order-goals, shop-actions}
-use Rattle.hgn.proofs.Waiting.{length-enter}
+use Rattle.hgn.proofs.Waiting.{length-enter, goals-length}
 use Rattle.hgn.proofs.Costs.{cost-append}
 use Rattle.hgn.proofs.Derivations.{RunsTo, derivation-runs, run-derives}
 use Rattle.hgn.proofs.Limits.{wider-run}
@@ -65,10 +65,6 @@ module _ {shop sheet trace : List ℕ} (k : Call shop sheet trace) where
 
   plan-is : (plan : List ℕ) (last : State) → Gives plan last → planIn k ≡ plan
   plan-is plan last a = ap (λ (n : ℕ). take n (k .result .room)) (a .count) ∙ a .plan-words
-
-goals-length : (o : Order) → length (goalsOf o) ≡ length (o .goals)
-unfolding goalsOf
-goals-length o = length-enter _ _ 0 (o .goals)
 
 goals-of : (o p : Order) → o .goals ≡ p .goals → goalsOf o ≡ goalsOf p
 unfolding goalsOf

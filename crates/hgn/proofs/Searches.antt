@@ -16,11 +16,11 @@ use Rattle.hgn.specs.Run.{Step, problemOf}
 use Rattle.hgn.specs.Shop.{domain, shopQuestions}
 use Rattle.hgn.specs.Order.{order, orderQuestions, checkOrder}
 use Rattle.hgn.specs.Trace.{sizeWords, stepCount, stepsOf, checkTrace}
-use Rattle.hgn.specs.Replay.{rulesOf, Replayed, replay}
+use Rattle.hgn.specs.Replay.{rulesOf, replay}
 use Rattle.hgn.specs.Search.{mostDepth, isFound, stepsFound, searched, Searched, noTrace, written, searchQuestions, search}
 use Rattle.hgn.specs.Demands.{Solves, FirstOfShortest, SearchPasses, Finds, Demand2OfSearch, SearchAgreesWithReplay}
 use Rattle.hgn.proofs.Tests.{strict-decided}
-use Rattle.hgn.proofs.Firsts.{refused≢passed, passed-cons, append-passed, append-refused, passed-append, Numbers, numbers-append, refused-number, Tells, tells-refusal, tells-passed}
+use Rattle.hgn.proofs.Firsts.{append-passed, append-refused, refused-number, Tells, tells-refusal, tells-passed}
 use Rattle.hgn.proofs.Numbers.{of-order, not-zero}
 use Rattle.hgn.proofs.Checked.{order-goals, shop-of-order, shop-actions}
 use Rattle.hgn.proofs.Waiting.{length-enter}

@@ -1,7 +1,7 @@
 -- What the questions of a step answered where it was taken, and back: from those answers the step is taken. Assumes nothing.
 use Prim.Native.Nat.{ℕ, _<_, _≤_}
 use native.Mathlib.Omega.{arith}
-use mathlib.Core.Path.{_≡_, refl, sym, ap, ap₂, _∙_, subst}
+use mathlib.Core.Path.{_≡_, refl, sym, _∙_, subst}
 use mathlib.Core.Bool.{true}
 use mathlib.Core.List.{List, [], _∷_}
 use lib.ListN.{length}
@@ -11,7 +11,7 @@ use Rattle.hgn.specs.Questions as Questions
 use Rattle.hgn.specs.Meaning.{networkOf}
 use Rattle.hgn.specs.State.{γ, allHold, formulaHolds}
 use Rattle.hgn.specs.Network.{Waiting, step, free, anyFree, goalAt, noGoal, released, decomposed}
-use Rattle.hgn.specs.Run.{Step, Move, release, act, use-method, unknown, moveOf, known, actionAt, methodAt, Problem, Rules, moved, ownQuestions, stepQuestions, Deed, releases, deedOf, Stepped, refused, taken, stepped}
+use Rattle.hgn.specs.Run.{Step, Move, release, act, use-method, unknown, moveOf, known, actionAt, methodAt, Problem, Rules, moved, ownQuestions, stepQuestions, Deed, releases, deedOf, refused, taken, stepped}
 use Rattle.hgn.specs.Run as Run
 use Rattle.hgn.proofs.Tests.{true-any, at-of-lt, at-mem}
 use Rattle.hgn.proofs.Firsts.{passed-cons}

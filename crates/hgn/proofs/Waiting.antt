@@ -1,19 +1,28 @@
 -- Waiting lists when goals leave and enter: lengths and members. Assumes nothing.
-use Prim.Native.Nat.{ℕ, suc, _≤_}
+use Prim.Native.Nat.{ℕ, suc, _<_, _≤_}
 use native.Mathlib.Omega.{arith}
 use mathlib.Core.Path.{_≡_, refl, ap}
 use mathlib.Core.Logic.{_⊎_, inl, inr, ⊎-elim}
 use mathlib.Core.List.{List, [], _∷_, _++_, List·Memᴰ, List·Memᴰ·head, List·Memᴰ·tail, List·Memᴰ·cases-cons, Memᴰ·append-left, Memᴰ·append-right, List·Memᴰ·append-cases}
-use mathlib.Core.Option.{Option}
+use mathlib.Core.Option.{Option, none}
 use lib.ListN.{length, take, drop, length-append, length-take, length-drop}
 use Rattle.hgn.specs.Lists.{At, here, there}
-use Rattle.hgn.specs.Meaning.{Node}
-use Rattle.hgn.specs.Network.{Origin, Name, Waiting, enter, released}
+use Rattle.hgn.specs.Meaning.{Node, Order}
+use Rattle.hgn.specs.Network.{Origin, order, Name, Waiting, enter, goalsOf, noGoal, goalAt, released}
+use Rattle.hgn.proofs.Tests.{at-mem, at-of-lt}
 
 pub length-enter : (o : Origin) (parent : Option Name) (i : ℕ) (nodes : List Node) → length (enter o parent i nodes) ≡ length nodes
 unfolding enter
 length-enter o parent i [] = refl
 length-enter o parent i (n ∷ ns) = ap suc (length-enter o parent (suc i) ns)
+
+pub goals-length : (o : Order) → length (goalsOf o) ≡ length (o .goals)
+unfolding goalsOf
+goals-length o = length-enter order none 0 (o .goals)
+
+-- The goal at a place of the list waits.
+pub goal-mem : (w : List Waiting) (p : ℕ) → p < length w → List·Memᴰ (goalAt w p) w
+goal-mem w p h = at-mem (at-of-lt w p noGoal h)
 
 pub length-released : (w : List Waiting) (p : ℕ) → length (released w p) ≤ length w
 unfolding released

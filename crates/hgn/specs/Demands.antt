@@ -4,7 +4,7 @@
 use Prim.Native.Nat.{ℕ, _+_, _*_, _≤_, _<_}
 use mathlib.Core.Path.{_≡_}
 use mathlib.Core.Logic.{_↔_, _≢_}
-use mathlib.Core.List.{List, [], _∷_, _++_}
+use mathlib.Core.List.{List, _++_}
 use lib.ListN.{length, take, drop}
 use Rattle.hgn.specs.Questions.{Refusal, Question, passed, told, FirstNo, AllYes}
 use Rattle.hgn.specs.Meaning.{Order}
@@ -15,7 +15,7 @@ use Rattle.hgn.specs.Run.{Step, Problem, problemOf, startOf, Rules, cost
 use Rattle.hgn.specs.Join.{Accepted, Cut, join}
 use Rattle.hgn.specs.Shop.{domain, checkShop, shopQuestions}
 use Rattle.hgn.specs.Order.{order, rowCount, checkOrder, orderQuestions}
-use Rattle.hgn.specs.Trace.{sizeWords, stepCount, mostSteps, stepsOf, traceQuestions, checkTrace}
+use Rattle.hgn.specs.Trace.{sizeWords, stepCount, stepsOf, traceQuestions, checkTrace}
 use Rattle.hgn.specs.Replay.{rulesOf, Replayed, replay, replayQuestions}
 use Rattle.hgn.specs.Search.{Earlier, mostDepth, Searched, search, searchQuestions}
 use Rattle.hgn.specs.Definition1.{Derivation}

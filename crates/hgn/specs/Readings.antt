@@ -1,7 +1,7 @@
 -- What the definitions say, read a second time and by propositions: that accepted is derived, the order of the questions, 000's order and
 -- operations on networks, methods, effects, states, costs. What document 01 and source document 000 say of each is quoted above it.
 -- Values stand in `proofs/`, gathered in `proofs/Demands.antt`.
-use Prim.Native.Nat.{ℕ, suc, _+_, _-_, _*_, _≤_, _<_}
+use Prim.Native.Nat.{ℕ, _+_, _-_, _*_, _≤_, _<_}
 use mathlib.Core.Path.{_≡_}
 use mathlib.Core.Bool.{true, false}
 use mathlib.Core.Logic.{_↔_, _⊎_, _≢_}

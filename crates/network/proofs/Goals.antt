@@ -13,7 +13,7 @@ use Rattle.formulas.specs.Spanned.{spanRows}
 use Rattle.network.specs.Entries.{waitingOf, noEntry, entriesOf, listOf, without}
 use Rattle.network.specs.declared.waiting.Entry.{Entry}
 use Rattle.network.specs.declared.waiting.Waiting.{Waiting}
-use Rattle.network.proofs.Places.{getD-inside}
+use Rattle.hgn.proofs.Embedding.{getD-default}
 
 pub entries-length : (w : Waiting) → length (w .entries) ≡ 64 → w .count ≤ 64 → length (entriesOf w) ≡ w .count
 entries-length w l h = length-take-le (w .count) (w .entries) (omega arith)
@@ -24,7 +24,7 @@ module _ (shop order : List ℕ) where
 
   pub goal-is : (l : List Entry) (p : ℕ) → p < length l → goalAt (map (waitingOf shop order) l) p ≡ waitingOf shop order (getD l p noEntry)
   goal-is l p h =
-      getD-inside (map (waitingOf shop order) l) p noGoal (waitingOf shop order noEntry) (rw length-map h)
+      getD-default (map (waitingOf shop order) l) p noGoal (waitingOf shop order noEntry) (rw length-map h)
       ∙ List·getD-map (waitingOf shop order) l p noEntry
 
   -- The formula of the goal at a place is that of its rows.

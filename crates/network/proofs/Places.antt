@@ -1,8 +1,7 @@
 -- The array of the waiting list: what stands at a place, and what is left where its entries move, one by one. Assumes nothing.
-use Prim.Native.Nat.{ℕ, zero, suc, _+_, _-_, _<_, _≤_}
+use Prim.Native.Nat.{ℕ, suc, _+_, _-_, _<_, _≤_}
 use native.Mathlib.Omega.{arith}
 use native.Mathlib.Numerals.{add-one}
-use native.Mathlib.Nat.{not-suc-le-zero, le-of-suc-le-suc}
 use mathlib.Core.Path.{_≡_, refl, sym, ap, ap₂, _∙_}
 use mathlib.Core.List.{List, [], _∷_, _++_, append-nil}
 use lib.ListN.{length, take, drop, getD, set, length-take, length-set, drop-of-length-le, List·getD-eq-default}
@@ -10,13 +9,7 @@ use lib.Seq.{take-take, take-at, drop-at, take-suc, drop-cons, append-snoc, leng
 use Rattle.network.specs.Entries.{entriesOf, without, Opened}
 use Rattle.network.specs.declared.waiting.Entry.{Entry}
 use Rattle.network.specs.declared.waiting.Waiting.{Waiting}
-
-module _ {A : Type 0} where
-  -- Inside a list the element past its end does not matter.
-  pub getD-inside : (l : List A) (i : ℕ) (a b : A) → i < length l → getD l i a ≡ getD l i b
-  getD-inside [] i a b h = absurd (not-suc-le-zero h)
-  getD-inside (x ∷ l) zero a b h = refl
-  getD-inside (x ∷ l) (suc i) a b h = getD-inside l i a b (le-of-suc-le-suc h)
+use Rattle.hgn.proofs.Embedding.{getD-default}
 
 module _ {A : Type 0} (l : List A) where
   -- Without the element at place `p`, those behind it stand one place lower.
@@ -31,7 +24,7 @@ module _ {A : Type 0} (l : List A) where
 
   -- The entry at a place of the first `n`, and past them.
   pub entry-inside : (n i : ℕ) (a b : A) → i < n → n ≤ length l → getD l i a ≡ getD (take n l) i b
-  entry-inside n i a b h k = getD-inside l i a b (omega arith) ∙ sym (getD-take n l i b h)
+  entry-inside n i a b h k = getD-default l i a b (omega arith) ∙ sym (getD-take n l i b h)
 
   pub entry-past : (n i : ℕ) (b : A) → n ≤ i → b ≡ getD (take n l) i b
   entry-past n i b h = sym (List·getD-eq-default (take n l) b (simp length-take (omega arith)))

@@ -5,7 +5,7 @@ use native.Mathlib.Omega.{arith}
 use mathlib.Core.Path.{_≡_, refl, sym, ap, subst, _∙_}
 use mathlib.Core.Bool.{Bool, true, false}
 use mathlib.Core.Logic.{_≢_}
-use mathlib.Core.List.{List, [], _∷_, _++_, List·Memᴰ}
+use mathlib.Core.List.{List, [], _∷_, _++_}
 use mathlib.Core.Option.{none, some, Option·none-ne-some}
 use lib.Dec.{eqb, ltb}
 use lib.ListN.{length, take, drop, getD, length-append, length-take, length-drop, List·getD-append}
@@ -20,7 +20,7 @@ use Rattle.hgn.specs.Questions.{passed}
 use Rattle.hgn.specs.Network.{Waiting, order, step, free, enter, goalsOf, goalAt, noGoal, released, decomposed}
 use Rattle.hgn.specs.Definition1.{Listed}
 use Rattle.hgn.proofs.Tests.{at-mem, at-of-lt}
-use Rattle.hgn.proofs.Waiting.{length-enter}
+use Rattle.hgn.proofs.Waiting.{length-enter, goal-mem}
 use Rattle.hgn.proofs.Checked.{Numbered, shop-of-order, shop-counts, order-numbered, method-numbered}
 use Rattle.hgn.proofs.Names.{Named, Distinct}
 use Rattle.hgn.proofs.Reached.{Ordered}
@@ -30,9 +30,6 @@ use Rattle.predecessors.specs.Pending.{listed, pending, Counted}
 use Rattle.predecessors.specs.Kept.{Filled}
 use Rattle.predecessors.proofs.Places.{Entered, Released}
 use Rattle.predecessors.proofs.Pending.{none-pending, listed-none, pending-released, pending-inserted, pending-entered, pending-parent, pending-other, pending-waiting, pending-new}
-
-goal-mem : (w : List Waiting) (k : ℕ) → k < length w → List·Memᴰ (goalAt w k) w
-goal-mem w k h = at-mem (at-of-lt w k noGoal h)
 
 -- A goal is free exactly where its count is 0.
 pub counted-free : (w : List Waiting) (c : List ℕ) → Counted w c → (k : ℕ) → k < length w → eqb (getD c k 0) 0 ≡ free w (goalAt w k)

@@ -2,11 +2,10 @@
 use Prim.Native.Nat.{ℕ, suc}
 use mathlib.Core.Path.{_≡_, refl, sym, ap, _∙_, subst}
 use mathlib.Core.List.{List, [], _∷_, _++_}
-use lib.ListN.{length}
 use Rattle.hgn.specs.Questions.{passed}
 use Rattle.hgn.specs.State.{State}
 use Rattle.hgn.specs.Network.{Waiting, goalsOf}
-use Rattle.hgn.specs.Run.{Step, Problem, problemFrom, Deed, taken, stepped}
+use Rattle.hgn.specs.Run.{Step, Problem, Deed, taken, stepped}
 use Rattle.hgn.specs.Order.{order, checkOrder}
 use Rattle.hgn.specs.Replay.{rulesOf}
 use Rattle.hgn.specs.Readings.{first, next, by-sheet}

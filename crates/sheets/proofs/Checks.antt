@@ -3,7 +3,7 @@ use Prim.Native.Nat.{ℕ, suc, _+_, _*_, _<_, _≤_}
 use native.Mathlib.Omega.{arith}
 use native.Mathlib.Nat.{zero-add, add-zero}
 use mathlib.Core.Path.{_≡_, refl, sym, ap, _∙_}
-use mathlib.Core.Bool.{Bool, true, false, cond, _&&_, true≢false, and-eq-true-iff}
+use mathlib.Core.Bool.{Bool, true, false, cond, true≢false, and-eq-true-iff}
 use mathlib.Core.Logic.{_≢_}
 use mathlib.Core.List.{List, [], _∷_, _++_}
 use lib.Dec.{eqb}
@@ -13,7 +13,7 @@ use Rattle.hgn.specs.Lists.{among, any, parts, upTo}
 use Rattle.hgn.specs.Questions.{_asks_, _askedAt_, Verdict, passed, refused, firstNo}
 use Rattle.hgn.specs.Rows.{Row, has, rowQuestions, positionAfter}
 use Rattle.hgn.specs.Tag as Tag
-use Rattle.hgn.specs.Meaning.{nodesOf, nodeOf, orderOf, domainOf}
+use Rattle.hgn.specs.Meaning.{nodesOf, nodeOf, orderOf}
 use Rattle.hgn.specs.Shop as Shop
 use Rattle.hgn.specs.Order as Order
 use Rattle.hgn.specs.Trace as Trace
@@ -21,7 +21,7 @@ use Rattle.hgn.proofs.Firsts.{passed-cons, Numbers, told-passed, told-on}
 use Rattle.hgn.proofs.Numbers.{rows-numbers}
 use Rattle.reading.specs.Reading.{positionOf}
 use Rattle.reading.specs.Refusals.{refusalOf}
-use Rattle.scan.specs.Tally.{nothing, countedRows, foundIn, closed}
+use Rattle.scan.specs.Tally.{foundIn, closed}
 use Rattle.scan.specs.Scanned.{Scanned, questionsOf}
 use Rattle.sheets.specs.Answers.{shopSizes, orderSizes}
 use Rattle.reading.specs.declared.position.Sheet.{Sheet}

@@ -2,23 +2,22 @@
 use Prim.Native.Nat.{ℕ, _+_, _<_, _≤_}
 use native.Mathlib.Omega.{arith}
 use mathlib.Core.Path.{_≡_, refl, sym, ap, _∙_}
-use mathlib.Core.Bool.{Bool, true, false}
+use mathlib.Core.Bool.{true, false}
 use mathlib.Core.Logic.{_≢_}
 use mathlib.Core.List.{List}
 use mathlib.Core.Option.{some}
-use lib.Dec.{leb}
 use lib.ListN.{length, length-append, length-take, length-drop}
 use borrow.Author.Tests.{lt-ltb, le-ltb, le-leb, lt-leb, leb-true}
 use Rattle.hgn.specs.Questions as Questions
 use Rattle.hgn.specs.Questions.{_asks_, passed, firstNo}
-use Rattle.hgn.specs.Meaning.{Domain, Node, nodeOf, goalOf, networkOf}
+use Rattle.hgn.specs.Meaning.{Node, nodeOf, goalOf, networkOf}
 use Rattle.hgn.specs.State.{State, allHold, formulaHolds, relevant}
 use Rattle.hgn.specs.Network.{Waiting, Origin, step, mostWaiting, free, anyFree, goalAt, decomposed}
 use Rattle.hgn.specs.Run as Run
 use Rattle.hgn.specs.Run.{Step, Problem, Rules, moveOf, actionAt, methodAt, known, ownQuestions, stepQuestions, deedOf, moved, refused, taken, stepped}
 use Rattle.hgn.specs.Shop.{domain, actionCount, methodCount, checkShop}
 use Rattle.hgn.specs.Replay.{rulesOf}
-use Rattle.hgn.proofs.Firsts.{Numbers, refused-number, passed-cons}
+use Rattle.hgn.proofs.Firsts.{refused-number, passed-cons}
 use Rattle.hgn.proofs.Numbers.{step-numbers, not-zero}
 use Rattle.hgn.proofs.Checked.{shop-counts}
 use Rattle.hgn.proofs.Steps as Steps

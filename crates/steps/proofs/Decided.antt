@@ -9,16 +9,15 @@ use borrow.Author.Tests.{ne-eqb}
 use Rattle.hgn.specs.Questions as Questions
 use Rattle.hgn.specs.Questions.{_asks_, passed, firstNo, told}
 use Rattle.hgn.specs.Meaning as Meaning
-use Rattle.hgn.specs.Meaning.{Formula, literals, nodeOf, goalOf, networkOf}
+use Rattle.hgn.specs.Meaning.{literals, nodeOf, goalOf, networkOf}
 use Rattle.hgn.specs.State.{State, allHold, relevant}
 use Rattle.hgn.specs.Network as Network
-use Rattle.hgn.specs.Network.{mostWaiting, goalAt, free, anyFree}
+use Rattle.hgn.specs.Network.{goalAt, free, anyFree}
 use Rattle.hgn.specs.Run as Run
 use Rattle.hgn.specs.Run.{Problem, refused, moveOf, actionAt, methodAt, ownQuestions}
 use Rattle.hgn.specs.Shop.{domain, actionCount, methodCount}
 use Rattle.hgn.specs.Replay.{rulesOf}
-use Rattle.hgn.proofs.Firsts.{Numbers, refused-number, told-passed}
-use Rattle.hgn.proofs.Numbers.{step-numbers}
+use Rattle.hgn.proofs.Firsts.{Numbers, refused-number}
 use Rattle.reading.specs.Refusals.{refusalOf}
 use Rattle.reading.specs.declared.refusal.Refusal.{Refusal}
 use Rattle.reading.specs.declared.position.Sheet.the-variants as Of

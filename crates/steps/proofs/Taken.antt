@@ -10,9 +10,9 @@ use Rattle.hgn.specs.Questions.{passed, told}
 use Rattle.hgn.specs.Meaning.{networkOf}
 use Rattle.hgn.specs.State.{State, γ}
 use Rattle.hgn.specs.Network as Network
-use Rattle.hgn.specs.Network.{step, mostWaiting, decomposed}
+use Rattle.hgn.specs.Network.{step, decomposed}
 use Rattle.hgn.specs.Run as Run
-use Rattle.hgn.specs.Run.{moved, refused, stepped, actionAt, methodAt}
+use Rattle.hgn.specs.Run.{moved, stepped, actionAt, methodAt}
 use Rattle.hgn.specs.Shop.{domain}
 use Rattle.hgn.specs.Replay.{rulesOf}
 use Rattle.reading.specs.Refusals.{refusalOf}

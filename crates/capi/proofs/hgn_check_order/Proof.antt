@@ -1,14 +1,12 @@
 -- What is written is the check's answer. Assumes nothing.
+use mathlib.Core.Path.{ap}
 use borrow.Author.Needs.{needs}
-use Rattle.hgn.specs.Order.{checkOrder}
-use Rattle.capi.proofs.Leaving.{verdict-written}
+use Rattle.capi.specs.Words.{refusalWords}
 use Rattle.capi.proofs.hgn_check_order.Statement.{statement}
 use Rattle.capi.proofs.hgn_check_order.Tie as tie
 
 returns : tie.Need-returns
-returns c =
-    let args = c .before .before .before .before .before .before .args in
-    verdict-written (checkOrder (args .shop .now) (args .order .now)) (c .before .before .before .check-order .ensures)
+returns c = ap refusalWords (c .before .before .before .check-order .ensures)
 
 pub hgn-check-order-spec : {M : Type 1} → statement M
 hgn-check-order-spec = tie.close (tie.spec (λ c κs. search needs) (λ c. search needs) (λ c. search needs) returns)

@@ -6,10 +6,7 @@ use Rattle.capi.proofs.hgn_replay.Tie as tie
 
 returns : tie.Need-returns
 returns c =
-    let args = c .before .before .before .before .before .before .before .before .before .before .before .before .before .before .before .args in
-    replay-left (args .shop .now) (args .order .now) (args .trace .now) (args .plan .now)
-    (c .before .before .before .before .before .before .before .before .before .replay .ensures)
-    (c .bytes-of .ensures)
+    replay-left _ _ (c .before .before .before .before .before .before .before .before .before .before .replay .ensures) (c .bytes-of .ensures)
 
 pub hgn-replay-spec : {M : Type 1} → statement M
 hgn-replay-spec =

@@ -5,9 +5,7 @@ use Rattle.capi.proofs.hgn_search_2.Statement.{statement}
 use Rattle.capi.proofs.hgn_search_2.Tie as tie
 
 returns : tie.Need-returns
-returns c =
-    let args = c .before .before .before .before .before .before .before .before .before .before .args in
-    search-left (args .shop .now) (args .order .now) (args .depth) (args .room .now) (c .before .before .before .before .before .search .ensures)
+returns c = search-left _ _ (c .before .before .before .before .before .search .ensures)
 
 pub hgn-search-2-spec : {M : Type 1} → statement M
 hgn-search-2-spec =

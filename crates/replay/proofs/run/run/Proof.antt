@@ -11,8 +11,7 @@ use lib.ListN.{length, getD, length-map, length-replicate}
 use borrow.Author.Needs.{needs}
 use Rattle.hgn.specs.State.{State, γ}
 use Rattle.hgn.specs.Network as Network
-use Rattle.hgn.specs.Network.{mostWaiting, goalAt}
-use Rattle.hgn.specs.Order as OrderSheet
+use Rattle.hgn.specs.Network.{goalAt}
 use Rattle.hgn.specs.Meaning.{networkOf}
 use Rattle.hgn.specs.Questions as Questions
 use Rattle.hgn.specs.Questions.{placed}
@@ -37,7 +36,7 @@ use Rattle.freeness.specs.declared.free.Seen.{Seen}
 use Rattle.steps.proofs.Actions.{known-action, known-method}
 use Rattle.reading.specs.Refusals.{refusalOf}
 use Rattle.reading.specs.declared.refusal.Refusal.{Refusal}
-use Rattle.replay.specs.Answers.{answerOf, runAnswer, endAnswer}
+use Rattle.replay.specs.Answers.{runAnswer, endAnswer}
 use Rattle.network.specs.declared.waiting.Entry.{Entry}
 use Rattle.network.specs.declared.waiting.Waiting.{Waiting}
 use Rattle.steps.specs.declared.moves.Move.{Move}
