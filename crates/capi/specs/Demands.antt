@@ -14,7 +14,7 @@ use Rattle.hgn.specs.Trace.{checkTrace}
 use Rattle.hgn.specs.Replay.{Replayed, replay}
 use Rattle.hgn.specs.Search.{Searched, search}
 use Rattle.hgn.specs.Demands.{ShopCheckAnswers, OrderCheckAnswers, TraceCheckAnswers, ReplayAnswers, SearchAnswers}
-use Rattle.hgn.specs.Demands.{IsDefinition1, IsFirstOfShortest, SearchAndReplay}
+use Rattle.hgn.specs.Demands.{InputsPass, IsDefinition1, Call, IsFirstOfShortest, SearchAndReplay}
 use Rattle.capi.specs.Words.{refusalWords, ReplayLeft, SearchLeft}
 
 -- What a caller reads in the words and bytes.
@@ -30,11 +30,14 @@ replayedIn plan answer atoms = record {
 abbrev pub searchedIn : List ℕ → List ℕ → Searched
 searchedIn room answer = record { refusal = refusalIn answer; room = room }
 
--- Of the replay's call: what is read is the definition's record, so all that is said of such a record, of which these are two parts.
+-- Of the replay's call. What is read is the definition's record; so on sheets that pass, with room enough, it is one of the replays of
+-- which hgn's `Demand3OfReplays` speaks.
 pub record OfReplay (shop sheet trace room plan answer atoms : List ℕ) : Type 0 where
   pub is : replayedIn plan answer atoms ≡ replay shop sheet trace room
   pub demand-1 : ReplayAnswers shop sheet trace room (replayedIn plan answer atoms)
   pub demand-2 : IsDefinition1 shop sheet trace room (replayedIn plan answer atoms)
+  pub demand-3 : InputsPass shop sheet trace room
+      → (k : Call shop sheet trace) × (k .result ≡ replayedIn plan answer atoms) × (k .room ≡ room)
 
 -- Of the search's call.
 pub record OfSearch (shop sheet : List ℕ) (depth : ℕ) (room left answer : List ℕ) : Type 0 where

@@ -1,4 +1,4 @@
--- The answers of the five calls, as the words and bytes that a caller of C lends room for. Document 01, "Questions".
+-- The answers of the five calls, as the words and bytes that C reads them in. Document 01, "Questions".
 use Prim.Native.Nat.{ℕ}
 use mathlib.Core.Path.{_≡_}
 use mathlib.Core.Bool.{Bool, true, false}
@@ -8,7 +8,7 @@ use Rattle.hgn.specs.State.{State}
 use Rattle.hgn.specs.Replay.{Answer, Replayed}
 use Rattle.hgn.specs.Search.{Searched}
 
--- "Sheet checks answer number and place, 0 and 0 when passed." So do the others, in their first two words.
+-- "Sheet checks answer number and place". The replay and the search have them in their first two words.
 abbrev pub refusalWords : Refusal → List ℕ
 refusalWords r = r .number ∷ r .place ∷ []
 

@@ -90,7 +90,7 @@ module _ (shop sheet : List ℕ) where
           ∙ sym (run-cons (stepped (rulesOf shop)) n (problemIn shop sheet b) x xs ∙ ap (resumed (stepped (rulesOf shop)) n xs) e)
       go (taken deed P) e h =
           let t = comes n b x (cs .0) (taken deed P) e in
-          both-on (λ (o : Outcome) (u : Unit {0}). o ≡ run (rulesOf shop) n (problemIn shop sheet b) (x ∷ xs)) _ tt (cs .0 .answer .number) _ (λ z. tt) (t .0)
+          both-on (λ (o : Outcome) (u : Unit {0}). o ≡ run (rulesOf shop) n (problemIn shop sheet b) (x ∷ xs)) _ tt (cs .0 .answer .number) _ (λ z. tt) (ap (λ (q : Questions.Refusal). q .number) (t .0))
           (λ z. ap₂ {C = Outcome} prepend (did n b x (cs .0) deed P e)
           (h z ∙ ap (λ (Q : Run.Problem). run (rulesOf shop) (suc n) Q xs) (t .1))
           ∙ sym (run-cons (stepped (rulesOf shop)) n (problemIn shop sheet b) x xs ∙ ap (resumed (stepped (rulesOf shop)) n xs) e))
@@ -129,7 +129,7 @@ module _ (shop sheet : List ℕ) where
           let r : Reached (rulesOf shop) P₀ (ys ++ (x ∷ [])) (problemIn shop sheet (cs .0 .after)) =
           subst (Reached (rulesOf shop) P₀ (ys ++ (x ∷ []))) (sym (t .1)) (next x h (ap (λ (k : ℕ). stepped (rulesOf shop) k (problemIn shop sheet b) x) l ∙ e))
           in
-          both-on (Left P₀ ys n (x ∷ xs)) _ _ (cs .0 .answer .number) _ _ (t .0) (λ z.
+          both-on (Left P₀ ys n (x ∷ xs)) _ _ (cs .0 .answer .number) _ _ (ap (λ (q : Questions.Refusal). q .number) (t .0)) (λ z.
           let i = ih z r in
           let longer : n + suc (length xs) ≡ suc n + length xs = omega arith in
           let one-on : suc n + i .steps ≡ n + suc (i .steps) = omega arith in

@@ -1,24 +1,27 @@
 -- Demand 1: the checks, the replay and the search answer with the first question whose answer is no, and leave what they were lent.
 -- Assumes nothing.
 use Prim.Native.Nat.{ℕ}
-use mathlib.Core.Path.{_≡_, sym, subst}
+use mathlib.Core.Path.{_≡_, sym, ap, subst, _∙_}
 use mathlib.Core.Logic.{_≢_}
-use mathlib.Core.List.{List, _++_}
+use mathlib.Core.List.{List, [], _++_}
 use Rattle.hgn.specs.Questions.{Refusal, Question, firstNo, told}
 use Rattle.hgn.specs.Shop.{shopQuestions, checkShop}
 use Rattle.hgn.specs.Order.{orderQuestions, checkOrder}
 use Rattle.hgn.specs.Trace.{traceQuestions, checkTrace}
 use Rattle.hgn.specs.Search.{searchQuestions}
-use Rattle.hgn.specs.Demands.{AnswersFirst, Demand1}
-use Rattle.hgn.proofs.Firsts.{Numbers, numbers-append, Tells, answers-first, told-tells}
+use Rattle.hgn.specs.Demands.{CheckAnswers, Demand1}
+use Rattle.hgn.proofs.Firsts.{Numbers, numbers-append, Tells, answers-first, told-tells, told-passed}
 use Rattle.hgn.proofs.Numbers.{shop-numbers, of-order, of-trace, replay-numbers, not-zero}
 use Rattle.hgn.proofs.Replayed.{replay-tells, replay-refuses}
 use Rattle.hgn.proofs.Searches.{search-tells, search-leaves}
 use native.Mathlib.Omega.{arith}
 
 -- A check that answers the verdict of its questions.
-checks : (qs : List Question) → Numbers (λ k. k ≢ 0) qs → (a : Refusal) → a ≡ told (firstNo qs) → AnswersFirst qs a (Unit {0})
-checks qs h a e = answers-first qs a (Unit {0}) h (subst (λ (b : Refusal). Tells b (firstNo qs)) (sym e) (told-tells (firstNo qs))) (λ z. tt)
+checks : (qs : List Question) → Numbers (λ k. k ≢ 0) qs → (a : Refusal) → a ≡ told (firstNo qs) → CheckAnswers qs a
+checks qs h a e = record {
+  first = answers-first qs a (Unit {0}) h (subst (λ (b : Refusal). Tells b (firstNo qs)) (sym e) (told-tells (firstNo qs))) (λ z. tt);
+  passed-place = λ z. ap (λ (b : Refusal). b .place) (e ∙ ap told (told-passed qs [] a e h z));
+}
 
 search-numbers : (shop sheet : List ℕ) (depth : ℕ) (room : List ℕ) → Numbers (λ k. k ≢ 0) (searchQuestions shop sheet depth room)
 unfolding searchQuestions

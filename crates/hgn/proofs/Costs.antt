@@ -9,6 +9,7 @@ use Rattle.hgn.specs.Run.{noAction, costOf}
 use Rattle.hgn.specs.Shop.{domain}
 use Rattle.hgn.specs.Readings.{CostsAreBounded}
 use Rattle.hgn.proofs.Checked.{action-cost}
+use Rattle.hgn.proofs.Derivations.{plan-short}
 
 pub cost-append : (d : Domain) (p q : List ℕ) → costOf d (p ++ q) ≡ costOf d p + costOf d q
 unfolding costOf
@@ -30,4 +31,5 @@ pub costs-are-bounded : CostsAreBounded
 costs-are-bounded = record {
   bounded = λ shop e plan l. omega (arith, plan-cost (domain shop) (action-cost shop e) plan);
   product = refl;
+  short = λ r n P xs plan last. plan-short;
 }

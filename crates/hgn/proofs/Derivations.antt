@@ -13,7 +13,7 @@ use Rattle.hgn.specs.Run.{Step, firstMethod, Move, release, act, use-met
 use Rattle.hgn.specs.Run as Run
 use Rattle.hgn.specs.Definition1.{Stands, Derivation, base, satisfaction, application, decomposition}
 use Rattle.hgn.specs.Readings.{AcceptedIsDerivation}
-use Rattle.hgn.proofs.Tests.{at-mem, at-getD, at-lt, at-of-lt, all-hold-iff, formula-holds-iff, free-iff-unconstrained}
+use Rattle.hgn.proofs.Tests.{at-mem, at-getD, at-lt, at-of-lt, all-hold-iff, formula-holds-iff, free-iff-unconstrained, strict-decided}
 use Rattle.hgn.proofs.Steps.{Moved, by-release, by-action, by-method, took, takes}
 use Rattle.hgn.proofs.Moves.{Reads, as-release, as-action, as-method, reads, reads-action, reads-method}
 use Rattle.hgn.proofs.Waiting.{length-released}
@@ -158,10 +158,13 @@ module _ (r : Rules) (dec : Decided r) where
 
 -- Accepted steps are a derivation, and back.
 pub accepted-is-derivation : AcceptedIsDerivation
-accepted-is-derivation r dec b P xs plan last = (
-  (λ a. subst (λ (p : List ℕ). Derivation r 0 P xs p last) (sym (a .plan-is)) (run-derives r dec 0 P xs (a .deeds) last (a .within) (a .runs))),
-  (λ h. let t = derivation-runs r dec b h in record { within = t .0; deeds = t .1 .deeds; runs = t .1 .runs; plan-is = t .1 .plan-is }),
-)
+accepted-is-derivation = record {
+  accepted-iff = λ r dec b P xs plan last. (
+    (λ a. subst (λ (p : List ℕ). Derivation r 0 P xs p last) (sym (a .plan-is)) (run-derives r dec 0 P xs (a .deeds) last (a .within) (a .runs))),
+    (λ h. let t = derivation-runs r dec b h in record { within = t .0; deeds = t .1 .deeds; runs = t .1 .runs; plan-is = t .1 .plan-is }),
+  );
+  strict-decided = strict-decided;
+}
 
 -- A plan has at most one action for each step.
 pub plan-short : {r : Rules} {n : ℕ} {P : Problem} {last : State} {xs : List Step} {plan : List ℕ}

@@ -91,12 +91,12 @@ cases =
       cost = 0;
       room = lent;
     }
-    -- First step alone: move 4, whose needs do not hold; move 1, not relevant; move 5, unknown; move 0, which does not hold.
+    -- First step alone: move 4, whose needs do not hold; move 1, not relevant; move 5, unknown; move 0, a release, where the goal does not hold.
     ∷ coreRefused (1 ∷ 4 ∷ 0 ∷ []) 30 0
     ∷ coreRefused (1 ∷ 1 ∷ 0 ∷ []) 31 0
     ∷ coreRefused (1 ∷ 5 ∷ 0 ∷ []) 26 0
     ∷ coreRefused (1 ∷ 0 ∷ 0 ∷ []) 29 0
-    -- 256 at 0, then 0 at 4, which is not free; then 0 at 5, past the last place.
+    -- Two traces: 256 at 0, then 0 at 4, where the goal is not free; 256 at 0, then 0 at 5, past the last place.
     ∷ coreRefused (2 ∷ 256 ∷ 0 ∷ 0 ∷ 4 ∷ []) 28 1
     ∷ coreRefused (2 ∷ 256 ∷ 0 ∷ 0 ∷ 5 ∷ []) 25 1
     -- "0, or not 0 and 1": the action has a literal of the goal, and the opposite of another.

@@ -32,7 +32,8 @@ pub record Stands (r : Rules) (P : Problem) (p : ℕ) (t : Waiting) : Type 0 whe
 
 -- The solutions of 000, each with the steps that derive it: `Derivation r n P xs plan last` says that under the rules `r` the steps `xs`,
 -- numbered from `n`, derive `plan` for the problem `P` and leave the state `last`, with at most the rules' limit of goals waiting at each
--- moment. `MayAct` and `MayUse` of the rules are 'relevant' in 000.
+-- moment. Under 000's rules, `strict` of `Run`, `MayAct` and `MayUse` are 'relevant', and these are the solutions of Definition 1; other
+-- rules stand in the place of 'relevant'.
 pub data Derivation (r : Rules) : ℕ → Problem → List Step → List ℕ → State → Type 0 where
   -- "If T is empty, the empty plan is a solution."
   base : {n : ℕ} {s : State} → Derivation r n (record { state = s; waiting = [] }) [] [] s

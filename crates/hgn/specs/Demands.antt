@@ -1,5 +1,5 @@
 -- What is proved of the calls: the three demands of document 00, each as a named type with the demand quoted above it. Each speaks of
--- whatever answer and room at exit equal the definition's: that its own do is the contract of each call. What the definitions themselves
+-- whatever answer and room at exit equal the definition's; the contract of each call says that its answer and room do. What the definitions themselves
 -- say, read a second time, stands in `Readings`. Values stand in `proofs/`, gathered in `proofs/Demands.antt`.
 use Prim.Native.Nat.{ℕ, _+_, _*_, _≤_, _<_}
 use mathlib.Core.Path.{_≡_}
@@ -38,16 +38,19 @@ pub record Refuses (room : List ℕ) (c : Replayed) : Type 0 where
   pub cost : c .answer .cost ≡ 0
   pub unchanged : c .room ≡ room
 
--- The checks of sheets are lent no memory to write into.
+-- Of a check of sheets, which is lent no memory to write into. "0 and 0 when passed."
+pub record CheckAnswers (questions : List Question) (a : Refusal) : Type 0 where
+  pub first : AnswersFirst questions a (Unit {0})
+  pub passed-place : a .number ≡ 0 → a .place ≡ 0
+
 abbrev pub ShopCheckAnswers : List ℕ → Refusal → Type 0
-ShopCheckAnswers shop a = AnswersFirst (shopQuestions shop) a (Unit {0})
+ShopCheckAnswers shop a = CheckAnswers (shopQuestions shop) a
 
 abbrev pub OrderCheckAnswers : List ℕ → List ℕ → Refusal → Type 0
-OrderCheckAnswers shop sheet a = AnswersFirst (shopQuestions shop ++ orderQuestions shop sheet) a (Unit {0})
+OrderCheckAnswers shop sheet a = CheckAnswers (shopQuestions shop ++ orderQuestions shop sheet) a
 
 abbrev pub TraceCheckAnswers : List ℕ → List ℕ → List ℕ → Refusal → Type 0
-TraceCheckAnswers shop sheet trace a =
-    AnswersFirst (shopQuestions shop ++ orderQuestions shop sheet ++ traceQuestions trace) a (Unit {0})
+TraceCheckAnswers shop sheet trace a = CheckAnswers (shopQuestions shop ++ orderQuestions shop sheet ++ traceQuestions trace) a
 
 abbrev pub ReplayAnswers : List ℕ → List ℕ → List ℕ → List ℕ → Replayed → Type 0
 ReplayAnswers shop sheet trace room c = AnswersFirst (replayQuestions shop sheet trace room) (c .answer .refusal) (Refuses room c)
@@ -159,7 +162,7 @@ SearchAgreesWithReplay = (shop sheet : List ℕ) (depth : ℕ) (room : List ℕ)
 -- accepted on the second from the state that the front leaves. No trace has two such cuts. With such a cut, the plan on the join
 -- is the front's followed by the back's, the cost is the sum of the two, and the last state is the back's."
 -- It is stated of every list of steps, whatever its length, and under any rules with the limit 64, so of `rulesOf shop`. That "accepted" is
--- then a derivation under Definition 1 is `AcceptedIsDerivation` of `Readings`.
+-- a derivation under Definition 1, under these, is `AcceptedIsDerivation` of `Readings`.
 
 -- The steps are accepted on the join of the two orders.
 abbrev pub OnJoin : Rules → Order → Order → List Step → List ℕ → State → Type 0
@@ -192,10 +195,11 @@ pub record Call (shop sheet trace : List ℕ) : Type 0 where
   pub inputs : InputsPass shop sheet trace room
   pub called : result ≡ replay shop sheet trace room
 
--- It accepts, and this is then the plan: the first words of the room at exit.
+-- It accepts.
 abbrev pub Accepting : {shop sheet trace : List ℕ} → Call shop sheet trace → Type 0
 Accepting k = k .result .answer .refusal .number ≡ 0
 
+-- Where it accepts, the plan: the first words of the room at exit.
 abbrev pub planIn : {shop sheet trace : List ℕ} → Call shop sheet trace → List ℕ
 planIn k = take (k .result .answer .count) (k .result .room)
 
@@ -276,7 +280,7 @@ pub record Demand3OfReplays : Type 0 where
   pub calls-are-there : (shop first second trace : List ℕ)
       → checkTrace shop first trace ≡ passed → checkTrace shop second trace ≡ passed → CallsAreThere shop first second trace
 
--- All three.
+-- The three demands.
 pub record Promised : Type 1 where
   pub demand-1 : Demand1
   pub demand-2 : Demand2

@@ -43,7 +43,7 @@ unfoldable pub isParent : Name → Option Name → Bool
 isParent a none = false
 isParent a (some b) = sameName a b
 
--- `q` comes after `p`: `p` is of `q`'s network and its number is among `q`'s, or `p` came with a method used at `q`.
+-- `q` comes after `p`: `p` is of `q`'s network and its number is among those that `q` is listed after, or `p` came with a method used at `q`.
 unfoldable pub comesAfter : Waiting → Waiting → Bool
 comesAfter q p =
     sameOrigin (q .name .origin) (p .name .origin) && among (p .name .number) (q .after) || isParent (q .name) (p .parent)

@@ -5,7 +5,8 @@ use mathlib.Core.Path.{_≡_}
 use mathlib.Core.Bool.{Bool, true, false, cond}
 use mathlib.Core.List.{List, [], _∷_, map}
 
--- A refusal: the number of the question that is answered no, and its place.
+-- A refusal: the number of the question that is answered no, and its place. What is answered where there is none is a record of this kind
+-- too, with the number 0.
 pub record Refusal : Type 0 where
   pub number : ℕ
   pub place : ℕ  -- what "at" says, 0 where it is not said
@@ -41,7 +42,7 @@ unfoldable pub firstNo : List Question → Verdict
 firstNo [] = passed
 firstNo (q ∷ qs) = cond (q .answer) (firstNo qs) (refused (q .refusal))
 
--- A verdict as a call answers it: "0 and 0 when passed".
+-- A verdict as a check of sheets answers it: "0 and 0 when passed".
 abbrev pub told : Verdict → Refusal
 told passed = record { number = 0; place = 0 }
 told (refused r) = r

@@ -1,5 +1,6 @@
 -- What the definitions say, read a second time and by propositions: that accepted is derived, the order of the questions, 000's order and
--- operations on networks, methods, effects, states, costs. What document 01 and source document 000 say of each is quoted above it.
+-- operations on networks, methods, effects, states, costs; with `Written`, which sheets pass. Where a statement follows a sentence of
+-- document 01 or of source document 000, that is quoted above it.
 -- Values stand in `proofs/`, gathered in `proofs/Demands.antt`.
 use Prim.Native.Nat.{ℕ, _+_, _-_, _*_, _≤_, _<_}
 use mathlib.Core.Path.{_≡_}
@@ -12,10 +13,11 @@ use Rattle.hgn.specs.Lists.{At, below}
 use Rattle.hgn.specs.Questions.{Refusal, passed}
 use Rattle.hgn.specs.Questions as Questions
 use Rattle.hgn.specs.Tag.{mostCost}
-use Rattle.hgn.specs.Meaning.{Literal, Node, Method, Order, lastOf, goalOf, networkOf}
+use Rattle.hgn.specs.Meaning.{Literal, Node, Method, Domain, Order, lastOf, goalOf, networkOf}
 use Rattle.hgn.specs.State.{State, mostAtoms, allHold, formulaHolds, γ}
 use Rattle.hgn.specs.Network.{Waiting, step, free, anyFree, enter, goalsOf, goalAt, released, decomposed}
-use Rattle.hgn.specs.Run.{Step, release, act, use-method, unknown, moveOf, known, actionAt, methodAt, Problem, startOf, problemFrom, Rules, Decided, moved, Deed, Stepped, refused, taken, stepped, costOf}
+use Rattle.hgn.specs.Run.{Step, release, act, use-method, unknown, moveOf, known, actionAt, methodAt, Problem, startOf, problemFrom}
+use Rattle.hgn.specs.Run.{Rules, Decided, strict, moved, Deed, Stepped, refused, taken, stepped, costOf}
 use Rattle.hgn.specs.Join.{Accepted, join}
 use Rattle.hgn.specs.Shop.{domain, mostActions, checkShop}
 use Rattle.hgn.specs.Order.{order, checkOrder}
@@ -26,19 +28,21 @@ use Rattle.hgn.specs.Written.{SheetsAreWritten}
 use Rattle.hgn.specs.Definition1.{Derivation, Listed, Precedes, Unconstrained}
 
 -- Accepted is derived. Whatever the rules, if their tests decide their propositions, and whatever the first problem, accepted steps are a
--- derivation under Definition 1 of the same plan and last state, and back. The limit on actions keeps the moves apart.
-abbrev pub AcceptedIsDerivation : Type 1
-AcceptedIsDerivation = (r : Rules) → Decided r → length (r .domain .actions) ≤ mostActions
-    → (P : Problem) (xs : List Step) (plan : List ℕ) (last : State)
-    → Accepted r P xs plan last ↔ Derivation r 0 P xs plan last
+-- derivation of the same plan and last state, and back. The limit on actions keeps the moves apart. The tests of 000's rules decide, so
+-- with these it is a derivation under Definition 1.
+pub record AcceptedIsDerivation : Type 1 where
+  pub accepted-iff : (r : Rules) → Decided r → length (r .domain .actions) ≤ mostActions
+      → (P : Problem) (xs : List Step) (plan : List ℕ) (last : State) → Accepted r P xs plan last ↔ Derivation r 0 P xs plan last
+  pub strict-decided : (limit : ℕ) (d : Domain) → Decided (strict limit d)
 
--- The order of the questions: where two neighbours are both answered no, and those before them yes, the number told is the first one's.
+-- The order of the questions of a step, from 25 to 32, of those where a replay's sheets, its room and its steps meet, and of a search's:
+-- where two neighbours are both answered no, and those before them yes, the number told is the first one's.
 
 -- The step is refused by the question of this number.
 abbrev pub RefusedBy : ℕ → Stepped → Type 0
 RefusedBy number o = (q : Refusal) × (o ≡ refused q) × (q .number ≡ number)
 
--- Of a step: the numbers, the place and the goal at it are those of document 01.
+-- Of a step, whatever its number and the problem.
 pub record StepOrder (r : Rules) (n : ℕ) (P : Problem) (x : Step) : Type 0 where
   pub place-before-known : length (P .waiting) ≤ x .place → moveOf (r .domain) (x .move) ≡ unknown → RefusedBy 25 (stepped r n P x)
   pub known-before-any : x .place < length (P .waiting) → moveOf (r .domain) (x .move) ≡ unknown → anyFree (P .waiting) ≡ false
@@ -117,8 +121,8 @@ pub record OrderedNetwork (w : List Waiting) : Type 0 where
   pub irreflexive : (t : Waiting) → ¬ Precedes w t t
 
 -- 000's operations on such a network. Goal release: "T′ = T \ {t} and ≺′ is the restriction of ≺ to T′". Method application:
--- "T′ = T ∪ T_m and ≺′ = ≺ ∪ ≺_m ∪ {(t_m, t) | t_m ∈ T_m}" (000 prints m ∈ T_m), of the listed pairs, and of the orders, whose union is
--- closed under transitivity.
+-- "T′ = T ∪ T_m and ≺′ = ≺ ∪ ≺_m ∪ {(t_m, t) | t_m ∈ T_m}" (000 prints m ∈ T_m): as it stands of the listed pairs, and of the orders by
+-- the transitive closure of that union.
 
 -- The nodes T_m of a method used at goal `t` in step `n`.
 abbrev pub entering : ℕ → Waiting → Method → List Waiting
@@ -182,7 +186,7 @@ abbrev pub EffectsAreGamma : Type 0
 EffectsAreGamma = (s : State) (effects : List Literal) (p : ℕ) → p < length s → In (γ s effects) p ↔ InEffect s effects p
 
 -- Document 01: "A state is a set of atoms. At first the state is the atoms of the order's 12 rows". Every state that a run reaches from
--- a state of 256 atoms is one, so that the effects above are those of its actions.
+-- a set of the 256 atoms is one, so that the effects above are those of its actions.
 
 pub record StatesAreSetsOfAtoms : Type 1 where
   pub at-first : (o : Order) (p : ℕ) → p < mostAtoms → In (startOf o) p ↔ List·Memᴰ p (o .start)
@@ -190,12 +194,15 @@ pub record StatesAreSetsOfAtoms : Type 1 where
   pub whole : (r : Rules) (P Q : Problem) (xs : List Step) → Reached r P xs Q → length (Q .state) ≡ length (P .state)
 
 -- Document 01: the cost is "at most 4,096 × 65,535 = 268,431,360".
-pub record CostsAreBounded : Type 0 where
+pub record CostsAreBounded : Type 1 where
   pub bounded : (shop : List ℕ) → checkShop shop ≡ passed → (plan : List ℕ) → length plan ≤ mostSteps
       → costOf (domain shop) plan ≤ mostSteps * mostCost
   pub product : mostSteps * mostCost ≡ 268_431_360
+  -- A derived plan has at most as many actions as its trace has steps.
+  pub short : (r : Rules) (n : ℕ) (P : Problem) (xs : List Step) (plan : List ℕ) (last : State) → Derivation r n P xs plan last
+      → length plan ≤ length xs
 
--- All of it.
+-- All statements of this page.
 pub record Read : Type 1 where
   pub sheets-are-written : SheetsAreWritten
   pub accepted-is-derivation : AcceptedIsDerivation

@@ -192,7 +192,7 @@ runBy next n P (x ∷ xs) = elim (next n P x) [
   | taken deed P′ ↦ prepend deed (runBy next (suc n) P′ xs)
 ]
 
--- Only a method adds to the list, so the limit is asked only there: a run from a list within the limit stays within it, and `Accepted` of
+-- The run under these rules. Only a method adds to the list, so the limit is asked only there: a run from a list within the limit stays within it, and `Accepted` of
 -- `Join` asks it of the first list.
 abbrev pub run : Rules → ℕ → Problem → List Step → Outcome
 run r = runBy (stepped r)

@@ -19,7 +19,7 @@ use Rattle.hgn.specs.Order.{order, orderQuestions}
 use Rattle.hgn.specs.Trace.{sizeWords, step, traceWords}
 use Rattle.hgn.specs.Replay.{rulesOf}
 
--- The order on traces of one length: at the first differing step a lower place, or the same place and a lower move.
+-- The order on traces, asked of two of one length: at the first differing step a lower place, or the same place and a lower move.
 pub data Earlier : List Step → List Step → Type 0 where
   lower-place : {x y : Step} {xs ys : List Step} → x .place < y .place → Earlier (x ∷ xs) (y ∷ ys)
   lower-move : {x y : Step} {xs ys : List Step} → x .place ≡ y .place → x .move < y .move → Earlier (x ∷ xs) (y ∷ ys)

@@ -114,13 +114,13 @@ pub record ShopIsWritten (shop : List ℕ) : Type 0 where
   pub passed-iff : (checkShop shop ≡ passed) ↔ ((F : ℕ) × (d : Domain) × DomainRules F d × (shop ≡ shopWords F d))
   pub means : (F : ℕ) (d : Domain) → shop ≡ shopWords F d → (F ≡ Shop.atomCount shop) × (d ≡ domain shop)
 
--- So it is with an order sheet, whose F is that of its shop sheet.
+-- An order sheet passes exactly when it is the words of an order that keeps the rules, with the F of its shop sheet; they mean that order.
 pub record OrderIsWritten (shop sheet : List ℕ) : Type 0 where
   pub passed-iff : (checkOrder shop sheet ≡ passed)
       ↔ ((o : Order) × OrderRules (Shop.atomCount shop) o × (sheet ≡ orderWords (Shop.atomCount shop) o))
   pub means : (F : ℕ) (o : Order) → sheet ≡ orderWords F o → o ≡ order sheet
 
--- And with a trace.
+-- A trace passes exactly when it is the words of at most 4,096 steps; they mean those steps.
 pub record TraceIsWritten (shop sheet trace : List ℕ) : Type 0 where
   pub passed-iff : (checkTrace shop sheet trace ≡ passed) ↔ ((xs : List Step) × (length xs ≤ 4096) × (trace ≡ traceWords xs))
   pub means : (xs : List Step) → trace ≡ traceWords xs → xs ≡ stepsOf trace

@@ -22,5 +22,5 @@ pub record OfCall (shop sheet trace room : List ℕ) (r : Answer) (exit : List �
 pub record Promised : Type 1 where
   pub of-call : (shop sheet trace room : List ℕ) (r : Answer) (exit : List ℕ) → Replays shop sheet trace room r exit
       → OfCall shop sheet trace room r exit
-  -- All that hgn's page says.
+  -- All that hgn's page of demands says.
   pub definitions : Demands.Promised

@@ -90,7 +90,7 @@ module _ (shop order : List ℕ) (n : ℕ) (b : Problem) (few : b .waiting .coun
       pub step-taken : {r : Code.Stepped} → Applied shop order n p (knownOf m) b r
           → Is shop order (stepped (rulesOf shop) n (problemIn shop order b) (record { move = move; place = p })) b r
       step-taken {r} t = record {
-        comes-to = subst (λ o. Comes shop order o r) (sym (step-takes .comes n)) (number-of t, t .leaves);
+        comes-to = subst (λ o. Comes shop order o r) (sym (step-takes .comes n)) (t .refusal, t .leaves);
         unchanged = λ z. absurd (z (number-of t));
         within = t .within;
       }

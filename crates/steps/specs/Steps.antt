@@ -34,9 +34,9 @@ pub record Asked (shop order : List ℕ) (n p : ℕ) (m : Run.Move) (b : Problem
 -- The code's answer is the refusal, or none and the problem that a taken step leaves.
 abbrev pub Comes : List ℕ → List ℕ → Run.Stepped → Code.Stepped → Type 0
 Comes shop order (Run.refused q) r = (refusalOf (r .refusal) ≡ q) × (q .number ≢ 0)
-Comes shop order (Run.taken deed P) r = (r .refusal .number ≡ 0) × (problemIn shop order (r .problem) ≡ P)
+Comes shop order (Run.taken deed P) r = (refusalOf (r .refusal) ≡ told passed) × (problemIn shop order (r .problem) ≡ P)
 
--- The step comes to `o`; refused, the record is as it was; no more than may wait.
+-- The step comes to `o`; refused, the record is as it was; and at most 64 goals wait in the record.
 pub record Is (shop order : List ℕ) (o : Run.Stepped) (b : Problem) (r : Code.Stepped) : Type 0 where
   pub comes-to : Comes shop order o r
   pub unchanged : r .refusal .number ≢ 0 → r .problem ≡ b
