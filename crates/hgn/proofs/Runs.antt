@@ -3,10 +3,11 @@ use Prim.Native.Nat.{ℕ, suc}
 use native.Mathlib.Omega.{arith}
 use native.Mathlib.Nat.{not-suc-le-zero}
 use mathlib.Core.Path.{_≡_, refl, sym, ap, _∙_}
+use mathlib.Core.Bool.{false}
 use mathlib.Core.List.{List, [], _∷_}
 use lib.Dec.{eqb·suc-zero}
 use lib.ListN.{length}
-use Rattle.hgn.specs.Questions.{Refusal, placed, allAt, firstNo}
+use Rattle.hgn.specs.Questions.{Refusal, _asks_, placed, allAt, firstNo}
 use Rattle.hgn.specs.State.{State}
 use Rattle.hgn.specs.Network.{Waiting}
 use Rattle.hgn.specs.Run.{Step, Problem, Rules, Deed, Stepped, refused, taken, stepped, Outcome, stopped, accepted, prepend, endQuestions, ended, runBy, run}
@@ -36,7 +37,7 @@ ended-nothing n s = refl
 pub ended-waiting : (n : ℕ) (s : State) (g : Waiting) (w : List Waiting)
     → (q : Refusal) × (ended n (record { state = s; waiting = g ∷ w }) ≡ stopped q)
 unfolding ended endQuestions firstNo allAt
-ended-waiting n s g w = (record { number = 33; place = n }, rw (eqb·suc-zero (length w), ended))
+ended-waiting n s g w = (placed n ((33 asks false) .refusal), rw (eqb·suc-zero (length w), ended))
 
 -- A run that is accepted without a step has nothing waiting.
 pub ended-empty : (n : ℕ) (P : Problem) (deeds : List Deed) (last : State) → ended n P ≡ accepted deeds last

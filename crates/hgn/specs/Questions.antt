@@ -5,11 +5,14 @@ use mathlib.Core.Path.{_≡_}
 use mathlib.Core.Bool.{Bool, true, false, cond}
 use mathlib.Core.List.{List, [], _∷_, map}
 
--- A refusal: the number of the question that is answered no, and its place. What is answered where there is none is a record of this kind
--- too, with the number 0.
+-- A refusal: the number of the question that is answered no, and its place.
 pub record Refusal : Type 0 where
   pub number : ℕ
   pub place : ℕ  -- what "at" says, 0 where it is not said
+
+-- What is answered where no question is answered no.
+abbrev pub noRefusal : Refusal
+noRefusal = record { number = 0; place = 0 }
 
 pub record Question : Type 0 where
   pub refusal : Refusal  -- what is told where the answer is no
@@ -44,7 +47,7 @@ firstNo (q ∷ qs) = cond (q .answer) (firstNo qs) (refused (q .refusal))
 
 -- A verdict as a check of sheets answers it: "0 and 0 when passed".
 abbrev pub told : Verdict → Refusal
-told passed = record { number = 0; place = 0 }
+told passed = noRefusal
 told (refused r) = r
 
 -- The same by propositions: the first question of the list with the answer no gives this refusal.

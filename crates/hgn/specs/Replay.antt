@@ -3,7 +3,7 @@ use Prim.Native.Nat.{ℕ}
 use mathlib.Core.List.{List, [], _∷_, _++_}
 use lib.Dec.{leb}
 use lib.ListN.{length, drop}
-use Rattle.hgn.specs.Questions.{Refusal, Question, _asks_, Verdict, passed, refused, firstNo}
+use Rattle.hgn.specs.Questions.{Refusal, noRefusal, placed, Question, _asks_, Verdict, passed, refused, firstNo}
 use Rattle.hgn.specs.Meaning.{Domain}
 use Rattle.hgn.specs.State.{State, emptyState}
 use Rattle.hgn.specs.Network.{mostWaiting}
@@ -34,7 +34,7 @@ refusal room q = record { answer = record { refusal = q; state = emptyState; cou
 -- "Accepted: number 0, place L, the plan in the first words of the lent room, later words unchanged."
 unfoldable pub acceptance : Domain → ℕ → List ℕ → List ℕ → State → Replayed
 acceptance d steps room plan s = record {
-  answer = record { refusal = record { number = 0; place = steps }; state = s; count = length plan; cost = costOf d plan };
+  answer = record { refusal = placed steps noRefusal; state = s; count = length plan; cost = costOf d plan };
   room = plan ++ drop (length plan) room;
 }
 

@@ -9,7 +9,7 @@ use mathlib.Core.Option.{Option, none, some, Option·map}
 use lib.Dec.{leb}
 use lib.ListN.{length, drop}
 use Rattle.hgn.specs.Lists.{from, firstSome}
-use Rattle.hgn.specs.Questions.{Refusal, Question, _asks_, passed, firstNo}
+use Rattle.hgn.specs.Questions.{Refusal, noRefusal, placed, Question, _asks_, passed, firstNo}
 use Rattle.hgn.specs.Questions as Questions
 use Rattle.hgn.specs.Meaning.{Domain}
 use Rattle.hgn.specs.Network.{Waiting}
@@ -83,7 +83,7 @@ noTrace room q = record { refusal = q; room = room }
 -- "A search writes the trace into the first 1 + 2L words and answers 0 and L, the rest unchanged".
 unfoldable pub written : List ℕ → List Step → Searched
 written room xs =
-    record { refusal = record { number = 0; place = length xs }; room = traceWords xs ++ drop (length (traceWords xs)) room }
+    record { refusal = placed (length xs) noRefusal; room = traceWords xs ++ drop (length (traceWords xs)) room }
 
 -- The deepest search.
 abbrev pub mostDepth : ℕ

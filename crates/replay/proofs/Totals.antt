@@ -4,13 +4,14 @@ use Prim.Native.Nat.{ℕ, suc, _+_, _-_, _<_, _≤_}
 use native.Mathlib.Omega.{arith}
 use native.Mathlib.Nat.{add-zero}
 use mathlib.Core.Path.{_≡_, refl, sym, ap, ap₂, _∙_}
+use mathlib.Core.Bool.{false}
 use mathlib.Core.List.{List, [], _∷_}
 use lib.Dec.{eqb}
 use lib.ListN.{length, getD, take, drop, length-map}
 use lib.Seq.{drop-cons}
 use Rattle.hgn.specs.Rows.{Row, row}
 use Rattle.hgn.specs.Meaning.{Domain, Action, firstValue, actionOf}
-use Rattle.hgn.specs.Questions.{Refusal, placed, allAt, firstNo}
+use Rattle.hgn.specs.Questions.{Refusal, _asks_, placed, allAt, firstNo}
 use Rattle.hgn.specs.Run as Run
 use Rattle.hgn.specs.Run.{Step, actionAt, Deed, refused, taken, stepped, endQuestions, planOf, costOf}
 use Rattle.hgn.specs.Shop.{domain, rowCount, actionCount, shopRows}
@@ -82,7 +83,7 @@ ended-answer : (d : Domain) (steps : ℕ) (deeds : List Deed) (P : Run.Problem)
 unfolding Run.ended endQuestions firstNo allAt reported acceptance
 ended-answer d steps deeds P = by-test (eqb (length (P .waiting)) 0)
     (λ z. rw (z, Run.ended, prepended-accepted deeds (P .state)) refl)
-    (λ z. rw (z, Run.ended, prepended-stopped deeds (record { number = 33; place = steps })) refl)
+    (λ z. rw (z, Run.ended, prepended-stopped deeds (placed steps ((33 asks false) .refusal))) refl)
 
 -- A run in progress, and its next step.
 module _ (shop trace : List ℕ) (fits : 1 + (stepCount trace + stepCount trace) ≤ length trace) (P₀ : Run.Problem)

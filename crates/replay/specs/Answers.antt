@@ -1,8 +1,9 @@
 -- The replay's answer, as the definitions have it. Document 01, "Questions".
 use Prim.Native.Nat.{ℕ}
-use mathlib.Core.Bool.{cond, _&&_}
+use mathlib.Core.Bool.{false, cond, _&&_}
 use mathlib.Core.List.{List, [], _∷_}
 use lib.Dec.{eqb, leb, ltb}
+use Rattle.hgn.specs.Questions.{noRefusal, _asks_, placed}
 use Rattle.hgn.specs.State.{State}
 use Rattle.hgn.specs.Run.{Problem, run}
 use Rattle.hgn.specs.Shop.{domain}
@@ -27,8 +28,8 @@ runAnswer shop trace P = reported (domain shop) (stepCount trace) [] (run (rules
 abbrev pub endAnswer : ℕ → State → ℕ → ℕ → ℕ → Replay.Answer
 endAnswer steps s waiting count cost =
     cond (eqb waiting 0)
-    (record { refusal = record { number = 0; place = steps }; state = s; count = count; cost = cost })
-    (refusal [] (record { number = 33; place = steps }) .answer)
+    (record { refusal = placed steps noRefusal; state = s; count = count; cost = cost })
+    (refusal [] (placed steps ((33 asks false) .refusal)) .answer)
 
 -- The moves that are actions, with so many actions.
 unfoldable pub actionMoves : ℕ → List ℕ → List ℕ
