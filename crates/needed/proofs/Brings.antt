@@ -5,10 +5,9 @@ use mathlib.Core.Bool.{Bool, false}
 use mathlib.Core.List.{List, List·Memᴰ, List·Memᴰ·head, List·Memᴰ·tail, Memᴰ·map}
 use lib.ListN.{getD}
 use Rattle.hgn.specs.Lists.{any}
-use Rattle.hgn.specs.Meaning.{Node, Domain, noNode}
-use Rattle.hgn.specs.State.{State, relevant}
+use Rattle.hgn.specs.Meaning.{Node, noNode}
 use Rattle.hgn.specs.Network.{Waiting}
-use Rattle.hgn.specs.Run.{act, use-method, actionAt, methodAt}
+use Rattle.hgn.specs.Run.{act, use-method, actionAt, methodAt, Problem, Rules}
 use Rattle.hgn.specs.Shop.{domain}
 use Rattle.hgn.proofs.Tests.{not-true-false, false-not-true, true-any, mem-at, at-lt, at-getD}
 use Rattle.spans.specs.declared.index.Span.{Span}
@@ -20,18 +19,17 @@ use Rattle.pruning.specs.Needed.{Needed, OnlyMethod, InEvery}
 use Rattle.pruning.proofs.Needed.{needed-by-node, needed-by-relevance}
 use Rattle.needed.specs.Gathered.{NodesAt, WantedFormula}
 
-module _ (d : Domain) (s : State) (w : List Waiting) where
-  pub node-wanted : (m : ℕ) (v : Node) → Needed d s w (use-method m) → List·Memᴰ v (methodAt d m .nodes) → WantedFormula d s w (v .formula)
+module _ (r : Rules) (P : Problem) where
+  pub node-wanted : (m : ℕ) (v : Node) → Needed r P (use-method m) → List·Memᴰ v (methodAt (r .domain) m .nodes) → WantedFormula (v .formula) r P
   node-wanted m v n i l e k f o =
       let a = mem-at i in
-      needed-by-node d s w m (a .0) l k n (at-lt (a .1)) (subst (λ (x : Node). InEvery l (x .formula)) (sym (at-getD noNode (a .1))) e) f o
+      needed-by-node r P m (a .0) l k n (at-lt (a .1)) (subst (λ (x : Node). InEvery l (x .formula)) (sym (at-getD noNode (a .1))) e) f o
 
-  pub method-needed : (k m : ℕ) {told : Bool} → told ≡ any (λ (g : Waiting). relevant (actionAt d k .effects) (g .formula)) w → told ≡ false → OnlyMethod d k m
-      → Needed d s w (act k) → Needed d s w (use-method m)
+  pub method-needed : (k m : ℕ) {told : Bool} → told ≡ any (λ (g : Waiting). r .mayAct (actionAt (r .domain) k) (g .formula)) (P .waiting)
+      → told ≡ false → OnlyMethod r k m → Needed r P (act k) → Needed r P (use-method m)
   method-needed k m e f o n =
-      needed-by-relevance d s w k m n
-      (λ g i. not-true-false _ (λ t. false-not-true _ (sym e ∙ f) (true-any (λ (x : Waiting). relevant (actionAt d k .effects) (x .formula)) w i t)))
-      o
+      let test : Waiting → Bool = λ g. r .mayAct (actionAt (r .domain) k) (g .formula) in
+      needed-by-relevance r P k m n (λ g i. not-true-false _ (λ t. false-not-true _ (sym e ∙ f) (true-any test (P .waiting) i t))) o
 
 -- The nodes of a method that are left from a row on.
 pub record NodesLeft (shop order table : List ℕ) (m e row : ℕ) : Type 0 where

@@ -13,8 +13,9 @@ use lib.Seq.{take-suc-set, getD-set-same, getD-set-other, getD-take, length-take
 use borrow.Author.Tests.{ltb-false, lt-ltb, le-ltb}
 use Rattle.hgn.specs.Meaning.{Domain}
 use Rattle.hgn.specs.State.{State, literalHolds}
-use Rattle.hgn.specs.Network.{Waiting}
-use Rattle.hgn.specs.Run.{Step, Move, act, use-method, methodAt}
+use Rattle.hgn.specs.Run.{Step, Move, act, use-method, methodAt, Problem, Rules}
+use Rattle.hgn.specs.Shop.{domain}
+use Rattle.hgn.specs.Replay.{rulesOf}
 use Rattle.hgn.proofs.Tests.{false-not-true, at-mem, at-of-lt}
 use Rattle.pruning.specs.Pruned.{prunedOf}
 use Rattle.pruning.specs.Needed.{Needed, weight, weights, Different}
@@ -55,8 +56,8 @@ same-block d a b e = go (ltb a (length (d .actions))) (ltb b (length (d .actions
         let z : a - length (d .actions) ≡ b - length (d .actions) = cc in
         omega (arith, ltb-false a (length (d .actions)) h, ltb-false b (length (d .actions)) k)
 
-pub nothing : (d : Domain) (s : State) (w : List Waiting) (g : Gathered) → g .count ≡ 0 → g .weight ≡ 0 → length (g .blocks) ≡ 511 → Holds d s w g
-nothing d s w g c v size =
+pub nothing : (r : Rules) (P : Problem) (g : Gathered) → g .count ≡ 0 → g .weight ≡ 0 → length (g .blocks) ≡ 511 → Holds r P g
+nothing r P g c v size =
     let e : found g ≡ [] = rw c refl in record {
       within = λ b i. absurd (List·Memᴰ·not-nil (subst (List·Memᴰ b) e i));
       needed = λ b i. absurd (List·Memᴰ·not-nil (subst (List·Memᴰ b) e i));
@@ -71,14 +72,16 @@ nothing d s w g c v size =
 pub added : (g : Gathered) (block heavy : ℕ) → getD (g .marked) block false ≡ false → block < length (g .marked) → g .count < 511
     → g .weight + heavy ≤ 60000
     → WithBlock block heavy g (record { marked = set (g .marked) block true; blocks = set (g .blocks) (g .count) block; count = g .count + 1; weight = g .weight + heavy })
-added g block heavy new inside room few d s w known need weighed h =
-    let e : take (g .count + 1) (set (g .blocks) (g .count) block) ≡ found g ++ (block ∷ []) = rw add-one (take-suc-set (g .blocks) (g .count) block (omega (arith, h .size))) in
+added g block heavy new inside room few shop P known need weighed h =
+    let d = domain shop in
+    let e : take (g .count + 1) (set (g .blocks) (g .count) block) ≡ found g ++ (block ∷ []) =
+    rw add-one (take-suc-set (g .blocks) (g .count) block (omega (arith, h .size))) in
     let f : map (moveOfBlock d) (take (g .count + 1) (set (g .blocks) (g .count) block)) ≡ movesFound d g ++ (moveOfBlock d block ∷ []) =
     ap (map (moveOfBlock d)) e ∙ map-append (moveOfBlock d) (found g) (block ∷ []) in
     let other : (b : ℕ) → List·Memᴰ b (found g) → b ≢ block = λ b i q. false-not-true _ new (subst (λ (k : ℕ). getD (g .marked) k false ≡ true) q (h .marks b i)) in
     record {
       within = members (λ b. b < length (d .actions) + length (d .methods)) e (h .within) known;
-      needed = members (λ b. Needed d s w (moveOfBlock d b)) e (h .needed) need;
+      needed = members (λ b. Needed (rulesOf shop) P (moveOfBlock d b)) e (h .needed) need;
       marks = members (λ b. getD (set (g .marked) block true) b false ≡ true) e
           (λ b i. getD-set-other (g .marked) block b true false (other b i) ∙ h .marks b i)
           (getD-set-same (g .marked) block true false inside);
@@ -104,45 +107,49 @@ pub block-method : (d : Domain) (b m : ℕ) → b ≡ length (d .actions) + m �
 unfolding moveOfBlock
 block-method d b m e = rw (le-ltb b (length (d .actions)) (omega arith)) (ap use-method (omega arith))
 
-pub method-added : {d : Domain} {s : State} {w : List Waiting} {g r : Gathered} (m block heavy : ℕ) → block ≡ length (d .actions) + m → m < length (d .methods)
-    → heavy ≡ suc (length (methodAt d m .nodes)) → WithBlock block heavy g r → Needed d s w (use-method m) → Holds d s w g → Holds d s w r
-unfolding weight
-method-added {d} {s} {w} m block heavy e known weighs add n h =
-    let b = block-method d block m e in
-    add d s w (omega arith) (rw b n) (rw b (omega arith)) h
+module _ {g r : Gathered} (shop : List ℕ) (P : Problem) where
+  pub method-added : (m block heavy : ℕ) → block ≡ length (domain shop .actions) + m → m < length (domain shop .methods)
+      → heavy ≡ suc (length (methodAt (domain shop) m .nodes)) → WithBlock block heavy g r → Needed (rulesOf shop) P (use-method m)
+      → Holds (rulesOf shop) P g → Holds (rulesOf shop) P r
+  unfolding weight
+  method-added m block heavy e known weighs add n h =
+      let b = block-method (domain shop) block m e in
+      add shop P (omega arith) (rw b n) (rw b (omega arith)) h
 
--- Where the table names an action, it is the literal's only maker.
-pub maker-added : {d : Domain} {s : State} {w : List Waiting} {g r : Gathered} (table : List ℕ) (atom at : ℕ) (sign : Bool) {actions : ℕ} {told : Bool}
-    → atom < 256 → told ≡ literalHolds s (record { sign = sign; atom = atom }) → told ≡ false → at ≡ indexOf atom sign
-    → (getD table at 0 ≡ 0 → ⊥) → getD table at 0 ≤ actions → WithBlock (getD table at 0 - 1) 1 g r
-    → length (d .actions) ≡ actions → OnlyMakers d table → Wanted d s w (record { sign = sign; atom = atom }) → Holds d s w g → Holds d s w r
-unfolding weight
-maker-added {d} {s} {w} table atom at sign small held f e some known add n only wanted h =
-    let q : getD table at 0 ≡ getD table (indexOf atom sign) 0 = ap (λ (i : ℕ). getD table i 0) e in
-    let b = block-action d (getD table at 0) (omega arith) (omega arith) in
-    add d s w (omega arith)
-    (rw b (wanted _ (sym held ∙ f) (rw q (only (record { sign = sign; atom = atom }) small (omega arith) (omega arith)))))
-    (rw b (omega arith))
-    h
+  -- Where the table names an action, it is the literal's only maker.
+  pub maker-added : {s : State} (table : List ℕ) (atom at : ℕ) (sign : Bool) {actions : ℕ} {told : Bool}
+      → atom < 256 → told ≡ literalHolds s (record { sign = sign; atom = atom }) → told ≡ false → at ≡ indexOf atom sign
+      → (getD table at 0 ≡ 0 → ⊥) → getD table at 0 ≤ actions → WithBlock (getD table at 0 - 1) 1 g r
+      → P .state ≡ s → length (domain shop .actions) ≡ actions → OnlyMakers (domain shop) table
+      → Wanted (record { sign = sign; atom = atom }) (rulesOf shop) P → Holds (rulesOf shop) P g → Holds (rulesOf shop) P r
+  unfolding weight
+  maker-added table atom at sign small held f e some known add is n only wanted h =
+      let q : getD table at 0 ≡ getD table (indexOf atom sign) 0 = ap (λ (i : ℕ). getD table i 0) e in
+      let b = block-action (domain shop) (getD table at 0) (omega arith) (omega arith) in
+      let false-now = ap (λ (s : State). literalHolds s (record { sign = sign; atom = atom })) is ∙ sym held ∙ f in
+      add shop P (omega arith)
+      (rw b (wanted _ false-now (rw q (only (record { sign = sign; atom = atom }) small (omega arith) (omega arith)))))
+      (rw b (omega arith))
+      h
 
 -- What the list says of the move at a place.
-module _ {d : Domain} {s : State} {w : List Waiting} {g : Gathered} (h : Holds d s w g) where
+module _ {r : Rules} {P : Problem} {g : Gathered} (h : Holds r P g) where
   place-in : (i : ℕ) → i < g .count → List·Memᴰ (getD (g .blocks) i 0) (found g)
   place-in i b =
       subst (λ (k : ℕ). List·Memᴰ k (found g)) (getD-take (g .count) (g .blocks) i 0 b)
       (at-mem (at-of-lt (found g) i 0 (omega (arith, length-take-le (g .count) (g .blocks) (omega (arith, h .fits, h .size))))))
 
-  pub place-known : (i : ℕ) → i < g .count → getD (g .blocks) i 0 < length (d .actions) + length (d .methods)
+  pub place-known : (i : ℕ) → i < g .count → getD (g .blocks) i 0 < length (r .domain .actions) + length (r .domain .methods)
   place-known i b = h .within _ (place-in i b)
 
-  pub place-needed : (i : ℕ) → i < g .count → Needed d s w (moveOfBlock d (getD (g .blocks) i 0))
+  pub place-needed : (i : ℕ) → i < g .count → Needed r P (moveOfBlock (r .domain) (getD (g .blocks) i 0))
   place-needed i b = h .needed _ (place-in i b)
 
 -- No fewer steps than one for each goal and those of the moves.
-pub least-found : {d : Domain} {s : State} {w : List Waiting} {g : Gathered} → Holds d s w g → (n k : ℕ) → n ≡ length w → k < n + g .weight
-    → (s₀ : State) (w₀ : List Waiting) (y : Step) (t : ℕ) → prunedOf k d s₀ w₀ y t s w ≡ none
-least-found {d} {s} {w} {g} h n k e b =
-    none-shorter d s w (movesFound d g) (h .different) needed k (omega (arith, h .weighs))
+pub least-found : {r : Rules} {P : Problem} {g : Gathered} → Holds r P g → (n k : ℕ) → n ≡ length (P .waiting) → k < n + g .weight
+    → (P₀ : Problem) (y : Step) (t : ℕ) → prunedOf k r P₀ y t P ≡ none
+least-found {r} {P} {g} h n k e b =
+    none-shorter r P (movesFound (r .domain) g) (h .different) needed k (omega (arith, h .weighs))
   where
-    needed : (m : Move) → List·Memᴰ m (movesFound d g) → Needed d s w m
-    needed m i = let r = Memᴰ·of-map (moveOfBlock d) (found g) i in subst (Needed d s w) (r .2) (h .needed (r .0) (r .1))
+    needed : (m : Move) → List·Memᴰ m (movesFound (r .domain) g) → Needed r P m
+    needed m i = let f = Memᴰ·of-map (moveOfBlock (r .domain)) (found g) i in subst (Needed r P) (f .2) (h .needed (f .0) (f .1))

@@ -13,6 +13,7 @@ use Rattle.hgn.specs.Meaning.{Literal, Node, noNode, literals}
 use Rattle.hgn.specs.State.{relevant}
 use Rattle.hgn.specs.Run.{methodAt}
 use Rattle.hgn.specs.Shop.{domain, actionCount, methodCount}
+use Rattle.hgn.specs.Replay.{rulesOf}
 use Rattle.hgn.proofs.Tests.{true-any, at-mem, at-of-lt, false-not-true}
 use Rattle.hgn.proofs.Checked.{shop-counts}
 use Rattle.spans.specs.declared.index.Span.{Span}
@@ -105,12 +106,13 @@ module _ {shop order endTable startTable : List ℕ} (ix : Indexed shop order en
     {rows : Span} (t : rows ≡ actionSpan startTable k) where
   -- All methods are asked.
   pub method-alone : {n found : ℕ} → FoundTo (hasNode shop order rows) n found → n ≡ methodCount shop → 1 ≤ found
-      → (found ≤ methodCount shop) × OnlyMethod (domain shop) k (found - 1)
+      → (found ≤ methodCount shop) × OnlyMethod (rulesOf shop) k (found - 1)
   method-alone f e p = (
     omega (arith, f .within),
     (λ j i a b c.
+        let nodes = methodAt (domain shop) j .nodes in
         let z = f .only j (omega (arith, shop-counts shop (shop-passes ix) .1))
-        (true-any (λ (x : Node). relevant (literals 5 6 (spanRows shop order rows)) (x .formula)) (methodAt (domain shop) j .nodes) (at-mem (at-of-lt (methodAt (domain shop) j .nodes) i noNode b))
+        (true-any (λ (x : Node). relevant (literals 5 6 (spanRows shop order rows)) (x .formula)) nodes (at-mem (at-of-lt nodes i noNode b))
         (ap (λ (ls : List Literal). relevant ls (nodeIn (domain shop) j i .formula)) (effects-are ix h m t) ∙ c)) in
         omega arith),
   )

@@ -13,11 +13,12 @@ use borrow.Author.Tests.{eq-eqb, ne-eqb, ltb-true, ltb-false}
 use Rattle.hgn.specs.Lists.{upTo, parts}
 use Rattle.hgn.specs.Rows.{Row, row, has}
 use Rattle.hgn.specs.Tag as Tag
-use Rattle.hgn.specs.Meaning.{Literal, Formula, Action, Method, Domain, literals, nodeOf, actionOf, methodOf}
+use Rattle.hgn.specs.Meaning.{Literal, Formula, Action, Method, literals, nodeOf, actionOf, methodOf}
 use Rattle.hgn.specs.State.{State, contains}
 use Rattle.hgn.specs.Network.{Waiting}
-use Rattle.hgn.specs.Run.{Move, act, use-method}
+use Rattle.hgn.specs.Run.{Move, act, use-method, Problem, Rules}
 use Rattle.hgn.specs.Shop.{domain, actionCount, methodCount}
+use Rattle.hgn.specs.Replay.{rulesOf}
 use Rattle.hgn.proofs.Tests.{contains-iff, false-not-true, at-mem, at-of-lt}
 use Rattle.hgn.proofs.Checked.{shop-counts}
 use Rattle.reading.specs.declared.position.Sheet.the-variants as Of
@@ -35,7 +36,7 @@ use Rattle.network.proofs.Tables.{shop-passes}
 use Rattle.steps.proofs.Actions.{block-rows, action-rows}
 use Rattle.pruning.specs.Needed.{Needed, needsOf}
 use Rattle.pruning.proofs.Needed.{needed-by-goal, needed-by-need}
-use Rattle.needed.specs.Gathered.{moveOfBlock, WantedAll, WantedFormula}
+use Rattle.needed.specs.Gathered.{problemAt, moveOfBlock, WantedAll, WantedFormula}
 
 -- The literal of a row.
 module _ (t f tag value : ℕ) where
@@ -115,17 +116,17 @@ unfolding oneFrom
 one-ends true = refl
 one-ends false = refl
 
-module _ (d : Domain) (s : State) (w : List Waiting) where
+module _ (r : Rules) (P : Problem) where
   -- Of one alternative every literal stands in each.
-  pub alternative-wanted : {f : Formula} {ls : List Literal} → f ≡ ls ∷ [] → WantedFormula d s w f → WantedAll d s w ls
+  pub alternative-wanted : {f : Formula} {ls : List Literal} → f ≡ ls ∷ [] → WantedFormula f r P → WantedAll ls r P
   alternative-wanted {ls = ls} e h l i =
       h l (λ c j. ap (λ (k : List Literal). contains k l) (List·Memᴰ·eq-of-singleton (subst (List·Memᴰ c) e j)) ∙ contains-iff ls l .1 i)
 
-  pub goal-wanted : (g : Waiting) → List·Memᴰ g w → WantedFormula d s w (g .formula)
-  goal-wanted g i l v k f o = needed-by-goal d s w g l k i v f o
+  pub goal-wanted : (g : Waiting) → List·Memᴰ g (P .waiting) → WantedFormula (g .formula) r P
+  goal-wanted g i l v k f o = needed-by-goal r P g l k i v f o
 
-  pub needs-wanted : (m : Move) → Needed d s w m → WantedAll d s w (needsOf d m)
-  needs-wanted m h l i k f o = needed-by-need d s w m l k h (contains-iff (needsOf d m) l .1 i) f o
+  pub needs-wanted : (m : Move) → Needed r P m → WantedAll (needsOf (r .domain) m) r P
+  needs-wanted m h l i k f o = needed-by-need r P m l k h (contains-iff (needsOf (r .domain) m) l .1 i) f o
 
 -- What is known of the rows of a span is known of the rows handed back.
 pub span-rows : (P : List Row → Type 0) (shop order : List ℕ) (s : Span) {tags values : List ℕ} → tags ≡ tagsOf s shop order → values ≡ valuesOf s shop order
@@ -141,10 +142,10 @@ entry-waits shop order w i z b k =
     (subst (λ (e : Entry). List·Memᴰ e (entriesOf w)) (sym (entry-inside (w .entries) (w .count) i z z b k))
     (at-mem (at-of-lt (entriesOf w) i z (omega (arith, length-take-le (w .count) (w .entries) k)))))
 
-pub entry-wanted : (d : Domain) (s : State) (shop order : List ℕ) (w : Code.Waiting) (i : ℕ) (z : Entry) → i < w .count → w .count ≤ length (w .entries)
-    → WantedFormula d s (listOf shop order w) (nodeOf (spanRows shop order (getD (w .entries) i z .rows)) .formula)
+pub entry-wanted : (r : Rules) (s : State) (shop order : List ℕ) (w : Code.Waiting) (i : ℕ) (z : Entry) → i < w .count → w .count ≤ length (w .entries)
+    → WantedFormula (nodeOf (spanRows shop order (getD (w .entries) i z .rows)) .formula) r (problemAt shop order s w)
 unfolding waitingOf
-entry-wanted d s shop order w i z b k = goal-wanted d s (listOf shop order w) _ (entry-waits shop order w i z b k)
+entry-wanted r s shop order w i z b k = goal-wanted r (problemAt shop order s w) _ (entry-waits shop order w i z b k)
 
 -- The needs of a move stand in the rows of its block.
 module _ {shop order endTable startTable : List ℕ} (ix : Indexed shop order endTable startTable) (b : ℕ) (h : b < actionCount shop + methodCount shop) where
@@ -168,6 +169,6 @@ module _ {shop order endTable startTable : List ℕ} (ix : Indexed shop order en
           ap (λ (x : Method). x .needs) (method-span shop (shop-passes ix) (b - length (domain shop .actions)) (omega (arith, ltb-false b (length (domain shop .actions)) y, counts .0)))
           ∙ rw z (ap (literals 3 4) (sym (block-rows ix b h)))
 
-  pub block-wanted : (s : State) (w : List Waiting) → Needed (domain shop) s w (moveOfBlock (domain shop) b)
-      → WantedAll (domain shop) s w (literals 3 4 (spanRows shop order (record { sheet = Of.Shop; from = getD startTable b 0; to = getD startTable (b + 1) 0 })))
-  block-wanted s w n = rw add-one (subst (WantedAll (domain shop) s w) block-needs (needs-wanted (domain shop) s w _ n))
+  pub block-wanted : (P : Problem) → Needed (rulesOf shop) P (moveOfBlock (domain shop) b)
+      → WantedAll (literals 3 4 (spanRows shop order (record { sheet = Of.Shop; from = getD startTable b 0; to = getD startTable (b + 1) 0 }))) (rulesOf shop) P
+  block-wanted P n = rw add-one (subst (λ (ls : List Literal). WantedAll ls (rulesOf shop) P) block-needs (needs-wanted (rulesOf shop) P _ n))

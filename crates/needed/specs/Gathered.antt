@@ -8,12 +8,14 @@ use lib.ListN.{length, take, getD}
 use Rattle.hgn.specs.Meaning.{Literal, Formula, Domain, nodeOf}
 use Rattle.hgn.specs.Shop.{domain}
 use Rattle.hgn.specs.State.{State, literalHolds}
-use Rattle.hgn.specs.Network.{Waiting}
-use Rattle.hgn.specs.Run.{Move, act, use-method, methodAt}
+use Rattle.hgn.specs.Run.{Move, act, use-method, methodAt, Problem, Rules}
+use Rattle.hgn.specs.Replay.{rulesOf}
 use Rattle.spans.specs.declared.index.Span.{Span}
 use Rattle.reading.specs.declared.position.Sheet.the-variants as Of
 use Rattle.formulas.specs.Spanned.{spanRows}
+use Rattle.network.specs.Entries.{listOf}
 use Rattle.network.specs.Entering.{Bounds, Walk}
+use Rattle.network.specs.declared.waiting.Waiting.{Waiting}
 use Rattle.pruning.specs.Needed.{Needed, OnlyMaker, InEvery, weight, weights, Different}
 use Rattle.needed.specs.Tables.{OnlyMakers}
 use Rattle.needed.specs.declared.least.Gathered.{Gathered}
@@ -28,38 +30,43 @@ found g = take (g .count) (g .blocks)
 abbrev pub movesFound : Domain → Gathered → List Move
 movesFound d g = map (moveOfBlock d) (found g)
 
+-- The problem of this state and of the goals that wait in the code's list.
+abbrev pub problemAt : List ℕ → List ℕ → State → Waiting → Problem
+problemAt shop order s w = record { state = s; waiting = listOf shop order w }
+
 -- The moves found are needed and different, what they weigh is not said too high, and each is marked.
-pub record Holds (d : Domain) (s : State) (w : List Waiting) (g : Gathered) : Type 0 where
-  pub within : (b : ℕ) → List·Memᴰ b (found g) → b < length (d .actions) + length (d .methods)
-  pub needed : (b : ℕ) → List·Memᴰ b (found g) → Needed d s w (moveOfBlock d b)
+pub record Holds (r : Rules) (P : Problem) (g : Gathered) : Type 0 where
+  pub within : (b : ℕ) → List·Memᴰ b (found g) → b < length (r .domain .actions) + length (r .domain .methods)
+  pub needed : (b : ℕ) → List·Memᴰ b (found g) → Needed r P (moveOfBlock (r .domain) b)
   pub marks : (b : ℕ) → List·Memᴰ b (found g) → getD (g .marked) b false ≡ true
-  pub different : Different (movesFound d g)
-  pub weighs : g .weight ≤ weights d (movesFound d g)
+  pub different : Different (movesFound (r .domain) g)
+  pub weighs : g .weight ≤ weights (r .domain) (movesFound (r .domain) g)
   pub light : g .weight ≤ 60000
   pub fits : g .count ≤ 511
   pub size : length (g .blocks) ≡ 511
 
 -- The literal holds at some time in every accepted trace: where it does not at first, its only maker is needed.
-abbrev pub Wanted : Domain → State → List Waiting → Literal → Type 0
-Wanted d s w l = (k : ℕ) → literalHolds s l ≡ false → OnlyMaker d l k → Needed d s w (act k)
+abbrev pub Wanted : Literal → Rules → Problem → Type 0
+Wanted l r P = (k : ℕ) → literalHolds (P .state) l ≡ false → OnlyMaker (r .domain) l k → Needed r P (act k)
 
 -- Every literal of these is.
-abbrev pub WantedAll : Domain → State → List Waiting → List Literal → Type 0
-WantedAll d s w ls = (l : Literal) → List·Memᴰ l ls → Wanted d s w l
+abbrev pub WantedAll : List Literal → Rules → Problem → Type 0
+WantedAll ls r P = (l : Literal) → List·Memᴰ l ls → Wanted l r P
 
 -- Every literal is that stands in each alternative.
-abbrev pub WantedFormula : Domain → State → List Waiting → Formula → Type 0
-WantedFormula d s w f = (l : Literal) → InEvery l f → Wanted d s w l
+abbrev pub WantedFormula : Formula → Rules → Problem → Type 0
+WantedFormula f r P = (l : Literal) → InEvery l f → Wanted l r P
 
 -- What may be added: a needed move.
 abbrev pub WithBlock : ℕ → ℕ → Gathered → Gathered → Type 0
-WithBlock block heavy g r = (d : Domain) (s : State) (w : List Waiting) → block < length (d .actions) + length (d .methods)
-    → Needed d s w (moveOfBlock d block) → heavy ≤ weight d (moveOfBlock d block) → Holds d s w g → Holds d s w r
+WithBlock block heavy g h = (shop : List ℕ) (P : Problem) → block < length (domain shop .actions) + length (domain shop .methods)
+    → Needed (rulesOf shop) P (moveOfBlock (domain shop) block) → heavy ≤ weight (domain shop) (moveOfBlock (domain shop) block)
+    → Holds (rulesOf shop) P g → Holds (rulesOf shop) P h
 
--- What may be added by the table of only makers, if so much is known of a domain and a list.
-abbrev pub WithMakers : (Domain → List Waiting → Type 0) → State → List ℕ → ℕ → Gathered → Gathered → Type 0
-WithMakers known s table actions g r = (d : Domain) (w : List Waiting) → length (d .actions) ≡ actions → OnlyMakers d table → known d w
-    → Holds d s w g → Holds d s w r
+-- What may be added by the table of only makers, if so much is known of a shop sheet's rules and a problem with this state.
+abbrev pub WithMakers : (Rules → Problem → Type 0) → State → List ℕ → ℕ → Gathered → Gathered → Type 0
+WithMakers known s table actions g h = (shop : List ℕ) (P : Problem) → P .state ≡ s → length (domain shop .actions) ≡ actions
+    → OnlyMakers (domain shop) table → known (rulesOf shop) P → Holds (rulesOf shop) P g → Holds (rulesOf shop) P h
 
 -- The rows of method `m`'s nodes, walked along the table of ends.
 pub record NodesAt (shop order table : List ℕ) (m : ℕ) (r : Span) : Type 0 where
@@ -69,5 +76,13 @@ pub record NodesAt (shop order table : List ℕ) (m : ℕ) (r : Span) : Type 0 w
   pub few : length bs ≤ 63
 
 -- What may be added because a move is needed.
-abbrev pub Onward : Domain → State → List Waiting → Move → Gathered → Gathered → Type 0
-Onward d s w m g r = Needed d s w m → Holds d s w g → Holds d s w r
+abbrev pub Onward : Rules → Problem → Move → Gathered → Gathered → Type 0
+Onward r P m g h = Needed r P m → Holds r P g → Holds r P h
+
+-- The same of every problem with this state.
+abbrev pub OnwardFrom : Rules → State → Move → Gathered → Gathered → Type 0
+OnwardFrom r s m g h = (P : Problem) → P .state ≡ s → Onward r P m g h
+
+-- The moves that the waiting goals take, by a table that holds of a shop sheet with so many actions.
+abbrev pub OfGoals : Problem → List ℕ → ℕ → Gathered → Type 0
+OfGoals P table actions g = (shop : List ℕ) → length (domain shop .actions) ≡ actions → OnlyMakers (domain shop) table → Holds (rulesOf shop) P g

@@ -16,19 +16,18 @@ ghost use mathlib.Core.Bool.{true};
 ghost use mathlib.Core.List.{List, [], _∷_, zipWith};
 ghost use mathlib.Core.Option.{none};
 ghost use Prim.Native.Nat.{ℕ, _+_, _-_, _<_, _≤_};
-ghost use lib.ListN.{length};
 ghost use Rattle.hgn.specs.Rows.{row};
-ghost use Rattle.hgn.specs.Meaning.{Domain, literals, nodeOf};
+ghost use Rattle.hgn.specs.Meaning.{literals, nodeOf};
 ghost use Rattle.hgn.specs.State.{State};
-ghost use Rattle.hgn.specs.Network as Network;
 ghost use Rattle.hgn.specs.Run as Run;
 ghost use Rattle.hgn.specs.Shop.{domain, actionCount, methodCount};
-ghost use Rattle.network.specs.Entries.{listOf};
+ghost use Rattle.hgn.specs.Replay.{rulesOf};
 ghost use Rattle.formulas.specs.Spanned.{spanRows};
 ghost use Rattle.network.specs.Tables.{Indexed};
+ghost use Rattle.steps.specs.Steps.{problemIn};
 ghost use Rattle.pruning.specs.Pruned.{prunedOf};
 ghost use Rattle.needed.specs.Tables.{OnlyMakers};
-ghost use Rattle.needed.specs.Gathered.{Holds, moveOfBlock, Wanted, WantedAll, WantedFormula, WithBlock, WithMakers, Onward, NodesAt};
+ghost use Rattle.needed.specs.Gathered.{problemAt, Holds, moveOfBlock, Wanted, WantedAll, WantedFormula, WithBlock, WithMakers, Onward, OnwardFrom, OfGoals, NodesAt};
 
 // The needed moves found so far, as blocks: action k is block k - 1, and the methods follow the actions, as in the table of starts.
 pub struct Gathered {
@@ -47,7 +46,7 @@ impl Gathered {
     pub const FULL: u16 = 59000;
 
     pub fn empty() -> Gathered
-        ensures { λ r. ⌜ ((d : Domain) (s : State) (w : List Network.Waiting) → Holds d s w r) ⌝ }
+        ensures { λ r. ⌜ ((shop : List ℕ) (P : Run.Problem) → Holds (rulesOf shop) P r) ⌝ }
     {
         Gathered {
             marked: [false; 511],
@@ -99,7 +98,7 @@ impl Gathered {
         atom: u16,
         sign: bool,
     ) -> Gathered
-        ensures { λ r. ⌜ WithMakers (λ d w. Wanted d (now (atoms .entry)) w (record { sign = sign; atom = atom })) (now (atoms .entry)) table actions self r ⌝ }
+        ensures { λ r. ⌜ WithMakers (Wanted (record { sign = sign; atom = atom })) (now (atoms .entry)) table actions self r ⌝ }
     {
         if 256 <= atom {
             return self;
@@ -129,7 +128,7 @@ impl Gathered {
         yes: u16,
         no: u16,
     ) -> Gathered
-        ensures { λ r. ⌜ WithMakers (λ d w. WantedAll d (now (atoms .entry)) w (literals «yes» «no» (row tag value ∷ []))) (now (atoms .entry)) table actions self r ⌝ }
+        ensures { λ r. ⌜ WithMakers (WantedAll (literals «yes» «no» (row tag value ∷ []))) (now (atoms .entry)) table actions self r ⌝ }
     {
         if tag == yes {
             return self.with_maker(atoms, table, actions, value, true);
@@ -151,7 +150,7 @@ impl Gathered {
         yes: u16,
         no: u16,
     ) -> Gathered
-        ensures { λ r. ⌜ WithMakers (λ d w. WantedAll d (now (atoms .entry)) w (literals «yes» «no» (zipWith row (now (tags .entry)) (now (values .entry))))) (now (atoms .entry)) table actions self r ⌝ }
+        ensures { λ r. ⌜ WithMakers (WantedAll (literals «yes» «no» (zipWith row (now (tags .entry)) (now (values .entry))))) (now (atoms .entry)) table actions self r ⌝ }
     {
         let n = part::rows(tags, values);
         let mut next = self;
@@ -173,7 +172,7 @@ impl Gathered {
         actions: u16,
         rows: Span,
     ) -> Gathered
-        ensures { λ r. ⌜ WithMakers (λ d w. WantedFormula d (now (atoms .entry)) w (nodeOf (spanRows (now (shop .entry)) (now (order .entry)) rows) .formula)) (now (atoms .entry)) table actions self r ⌝ }
+        ensures { λ r. ⌜ WithMakers (WantedFormula (nodeOf (spanRows (now (shop .entry)) (now (order .entry)) rows) .formula)) (now (atoms .entry)) table actions self r ⌝ }
     {
         let tags = index::tags_of(rows, shop, order);
         let values = index::values_of(rows, shop, order);
@@ -201,7 +200,7 @@ impl Gathered {
         waiting: Waiting,
     ) -> Gathered
         requires { ⌜ waiting .count ≤ 64 ⌝ }
-        ensures { λ r. ⌜ ((d : Domain) → length (d .actions) ≡ actions → OnlyMakers d table → Holds d (now (atoms .entry)) (listOf (now (shop .entry)) (now (order .entry)) waiting) r) ⌝ }
+        ensures { λ r. ⌜ OfGoals (problemAt (now (shop .entry)) (now (order .entry)) (now (atoms .entry)) waiting) table actions r ⌝ }
     {
         let count = waiting.count as usize;
         let mut next = Gathered::empty();
@@ -227,7 +226,7 @@ impl Gathered {
         block: u16,
     ) -> Gathered
         requires { ⌜ Indexed (now shop) (now order) (now ends) (now starts) × (block < actionCount (now shop) + methodCount (now shop)) × OnlyMakers (domain (now shop)) table ⌝ }
-        ensures { λ r. ⌜ ((w : List Network.Waiting) → Onward (domain (now (shop .entry))) (now (atoms .entry)) w (moveOfBlock (domain (now (shop .entry))) block) self r) ⌝ }
+        ensures { λ r. ⌜ OnwardFrom (rulesOf (now (shop .entry))) (now (atoms .entry)) (moveOfBlock (domain (now (shop .entry))) block) self r ⌝ }
     {
         let actions = word(shop, 1);
         let at = block as usize;
@@ -262,7 +261,7 @@ impl Gathered {
         action: u16,
     ) -> Gathered
         requires { ⌜ Indexed (now shop) (now order) (now ends) (now starts) × (1 ≤ action) × (action ≤ actionCount (now shop)) × (waiting .count ≤ 64) ⌝ }
-        ensures { λ r. ⌜ ((s : State) → Onward (domain (now (shop .entry))) s (listOf (now (shop .entry)) (now (order .entry)) waiting) (Run.act action) self r) ⌝ }
+        ensures { λ r. ⌜ ((s : State) → Onward (rulesOf (now (shop .entry))) (problemAt (now (shop .entry)) (now (order .entry)) s waiting) (Run.act action) self r) ⌝ }
     {
         if makers::wanted_by(shop, order, ends, starts, waiting, action) {
             return self;
@@ -290,7 +289,7 @@ impl Gathered {
         method: u16,
     ) -> Gathered
         requires { ⌜ Indexed (now shop) (now order) (now ends) (now starts) × (method < methodCount (now shop)) × OnlyMakers (domain (now shop)) table ⌝ }
-        ensures { λ r. ⌜ ((w : List Network.Waiting) → Onward (domain (now (shop .entry))) (now (atoms .entry)) w (Run.use-method method) self r) ⌝ }
+        ensures { λ r. ⌜ OnwardFrom (rulesOf (now (shop .entry))) (now (atoms .entry)) (Run.use-method method) self r ⌝ }
     {
         let actions = word(shop, 1);
         let rows = method_nodes(shop, order, ends, starts, method);
@@ -323,8 +322,10 @@ impl Gathered {
         waiting: Waiting,
         block: u16,
     ) -> Gathered
-        requires { ⌜ Indexed (now shop) (now order) (now ends) (now starts) × (block < actionCount (now shop) + methodCount (now shop)) × OnlyMakers (domain (now shop)) table × (waiting .count ≤ 64) ⌝ }
-        ensures { λ r. ⌜ Onward (domain (now (shop .entry))) (now (atoms .entry)) (listOf (now (shop .entry)) (now (order .entry)) waiting) (moveOfBlock (domain (now (shop .entry))) block) self r ⌝ }
+        requires { ⌜ Indexed (now shop) (now order) (now ends) (now starts) × (block < actionCount (now shop) + methodCount (now shop))
+            × OnlyMakers (domain (now shop)) table × (waiting .count ≤ 64) ⌝ }
+        ensures { λ r. ⌜ Onward (rulesOf (now (shop .entry))) (problemAt (now (shop .entry)) (now (order .entry)) (now (atoms .entry)) waiting)
+            (moveOfBlock (domain (now (shop .entry))) block) self r ⌝ }
     {
         let actions = word(shop, 1);
         let next = self.with_needs(shop, order, ends, starts, atoms, table, block);
@@ -346,8 +347,8 @@ impl Gathered {
         waiting: Waiting,
     ) -> Gathered
         requires { ⌜ Indexed (now shop) (now order) (now ends) (now starts) × OnlyMakers (domain (now shop)) table × (waiting .count ≤ 64) ⌝ }
-        requires { ⌜ Holds (domain (now shop)) (now atoms) (listOf (now shop) (now order) waiting) self ⌝ }
-        ensures { λ r. ⌜ Holds (domain (now (shop .entry))) (now (atoms .entry)) (listOf (now (shop .entry)) (now (order .entry)) waiting) r ⌝ }
+        requires { ⌜ Holds (rulesOf (now shop)) (problemAt (now shop) (now order) (now atoms) waiting) self ⌝ }
+        ensures { λ r. ⌜ Holds (rulesOf (now (shop .entry))) (problemAt (now (shop .entry)) (now (order .entry)) (now (atoms .entry)) waiting) r ⌝ }
     {
         let mut next = self;
         let mut at = 0;
@@ -419,7 +420,8 @@ pub fn at_least<'a>(
     problem: Problem,
 ) -> u16
     requires { ⌜ Indexed (now shop) (now order) (now ends) (now starts) × (problem .waiting .count ≤ 64) ⌝ }
-    ensures { λ r. ⌜ ((k : ℕ) → k < r → (s₀ : State) (w₀ : List Network.Waiting) (y : Run.Step) (n : ℕ) → prunedOf k (domain (now (shop .entry))) s₀ w₀ y n (problem .atoms) (listOf (now (shop .entry)) (now (order .entry)) (problem .waiting)) ≡ none) ⌝ }
+    ensures { λ r. ⌜ ((k : ℕ) → k < r → (P₀ : Run.Problem) (y : Run.Step) (n : ℕ)
+        → prunedOf k (rulesOf (now (shop .entry))) P₀ y n (problemIn (now (shop .entry)) (now (order .entry)) problem) ≡ none) ⌝ }
 {
     let actions = word(shop, 1);
     let table = makers::makers(shop, order, ends, starts);

@@ -20,6 +20,7 @@ ghost use Rattle.hgn.specs.Meaning.{literals};
 ghost use Rattle.hgn.specs.State.{relevant};
 ghost use Rattle.hgn.specs.Run.{actionAt, methodAt};
 ghost use Rattle.hgn.specs.Shop.{domain, actionCount, methodCount};
+ghost use Rattle.hgn.specs.Replay.{rulesOf};
 ghost use Rattle.network.specs.Entries.{listOf};
 ghost use Rattle.formulas.specs.Spanned.{spanRows};
 ghost use Rattle.network.specs.Entering.{Bounds, Walk};
@@ -185,7 +186,7 @@ pub fn only_method<'a>(
     action: u16,
 ) -> u16
     requires { ⌜ Indexed (now shop) (now order) (now ends) (now starts) × (1 ≤ action) × (action ≤ actionCount (now shop)) ⌝ }
-    ensures { λ r. ⌜ (1 ≤ r → (r ≤ methodCount (now (shop .entry))) × OnlyMethod (domain (now (shop .entry))) action (r - 1)) ⌝ }
+    ensures { λ r. ⌜ (1 ≤ r → (r ≤ methodCount (now (shop .entry))) × OnlyMethod (rulesOf (now (shop .entry))) action (r - 1)) ⌝ }
 {
     let effects = action_rows(starts, action);
     let count = word(shop, 2);

@@ -7,19 +7,20 @@ use Rattle.needed.proofs.least.Gathered.add.Tie as tie
 
 returns-6 : tie.Need-returns-6
 returns-6 c =
-    added _ _ _ (c .before .before .before .before .if3 .left) (search needs) (c .before .before .before .before .before .before .if2 .left) (omega (arith, c .before .before .if5 .left, c .before .before .before .if4 .left))
+    let f = c .before .before in
+    added _ _ _ (f .before .before .if3 .left) (search needs) (f .before .before .before .before .if2 .left) (omega (arith, f .if5 .left, f .before .if4 .left))
 
 pub add-spec : {M : Type 1} → statement M
 add-spec =
     tie.close
     (tie.spec
     (λ c. search needs)
-    (λ c d s w b n l h. h)
-    (λ c d s w b n l h. h)
+    (λ c shop P b n l h. h)
+    (λ c shop P b n l h. h)
     (λ c. search needs)
-    (λ c d s w b n l h. h)
-    (λ c d s w b n l h. h)
-    (λ c d s w b n l h. h)
+    (λ c shop P b n l h. h)
+    (λ c shop P b n l h. h)
+    (λ c shop P b n l h. h)
     (λ c. search needs)
     (λ c. search needs)
     (λ c. search needs)

@@ -2,17 +2,16 @@
 use Prim.Native.Nat.{_-_}
 use native.Mathlib.Omega.{arith}
 use borrow.Author.Needs.{needs}
-use Rattle.hgn.specs.Shop.{domain}
+use Rattle.hgn.specs.Replay.{rulesOf}
 use Rattle.hgn.proofs.Checked.{shop-counts}
-use Rattle.network.specs.Entries.{listOf}
 use Rattle.network.proofs.Tables.{shop-passes}
-use Rattle.needed.specs.Gathered.{Holds}
+use Rattle.needed.specs.Gathered.{problemAt, Holds}
 use Rattle.needed.proofs.Gathering.{place-known, place-needed}
 use Rattle.needed.proofs.least.Gathered.closed.Statement.{statement}
 use Rattle.needed.proofs.least.Gathered.closed.Tie as tie
 
 abbrev Inv-loop : tie.InvT-loop
-Inv-loop shop order ends starts atoms table waiting next₀ at₀ next at = Holds (domain shop) atoms (listOf shop order waiting) next
+Inv-loop shop order ends starts atoms table waiting next₀ at₀ next at = Holds (rulesOf shop) (problemAt shop order atoms waiting) next
 
 abbrev μ-loop : tie.MeasureT-loop
 μ-loop shop order ends starts atoms table waiting next₀ at₀ next at = 511 - at

@@ -34,8 +34,8 @@ returns-3 c t n h =
     let a = c .before .before .before .before .method-nodes .ensures in
     let l = c .before .before .before .nodes-between .ensures (a .bs) (a .walk) .number in
     let q = ap length (sym (a .nodes)) ∙ length-map (a .bs) (nodeAt (s .args .shop .now) (s .args .order .now) Of.Shop) in
-    method-added _ _ _ (omega (arith, c .before .before .word .ensures, k)) (omega (arith, k, o .0, m .if2 .left)) (omega (arith, l, q)) (c .add .ensures)
-    (method-needed _ _ _ _ _ (m .before .before .before .wanted-by .ensures) (m .before .before .if1 .left) (o .1) n) h
+    method-added _ _ _ _ _ (omega (arith, c .before .before .word .ensures, k)) (omega (arith, k, o .0, m .if2 .left)) (omega (arith, l, q)) (c .add .ensures)
+    (method-needed _ _ _ _ (m .before .before .before .wanted-by .ensures) (m .before .before .if1 .left) (o .1) n) h
 
 pub with-method-spec : {M : Type 1} → statement M
 with-method-spec =

@@ -1,12 +1,12 @@
 -- What a move brings with it is needed. Assumes nothing.
 use native.Mathlib.Omega.{arith}
-use mathlib.Core.Path.{subst}
+use mathlib.Core.Path.{refl, subst}
 use borrow.Author.Needs.{needs}
-use Rattle.hgn.specs.Shop.{domain}
+use Rattle.hgn.specs.Replay.{rulesOf}
 use Rattle.hgn.proofs.Checked.{shop-counts}
-use Rattle.network.specs.Entries.{listOf}
 use Rattle.network.proofs.Tables.{shop-passes}
 use Rattle.pruning.specs.Needed.{Needed}
+use Rattle.needed.specs.Gathered.{problemAt}
 use Rattle.needed.proofs.Gathering.{block-below, block-method}
 use Rattle.needed.proofs.least.Gathered.with_move.Statement.{statement}
 use Rattle.needed.proofs.least.Gathered.with_move.Tie as tie
@@ -28,9 +28,9 @@ returns c n h =
     let a = s .args in
     let k = shop-counts _ (shop-passes (s .pre .0)) in
     c .with-method .ensures _
-    (subst (Needed (domain (a .shop .now)) (a .atoms .now) (listOf (a .shop .now) (a .order .now) (a .waiting)))
+    (subst (Needed (rulesOf (a .shop .now)) (problemAt (a .shop .now) (a .order .now) (a .atoms .now) (a .waiting)))
     (block-below _ _ (omega (arith, k, c .before .if1 .taken, b .word .ensures))) n)
-    (c .before .before .with-needs .ensures _ n h)
+    (c .before .before .with-needs .ensures _ refl n h)
 
 returns-2 : tie.Need-returns-2
 returns-2 c n h =
@@ -38,10 +38,10 @@ returns-2 c n h =
     let s = b .before .before .before .before .before in
     let a = s .args in
     let k = shop-counts _ (shop-passes (s .pre .0)) in
-    c .with-nodes .ensures _
-    (subst (Needed (domain (a .shop .now)) (a .atoms .now) (listOf (a .shop .now) (a .order .now) (a .waiting)))
+    c .with-nodes .ensures _ refl
+    (subst (Needed (rulesOf (a .shop .now)) (problemAt (a .shop .now) (a .order .now) (a .atoms .now) (a .waiting)))
     (block-method _ _ _ (omega (arith, k, c .before .if1 .left, b .word .ensures))) n)
-    (c .before .before .with-needs .ensures _ n h)
+    (c .before .before .with-needs .ensures _ refl n h)
 
 pub with-move-spec : {M : Type 1} → statement M
 with-move-spec =

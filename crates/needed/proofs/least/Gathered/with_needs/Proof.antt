@@ -3,7 +3,7 @@ use native.Mathlib.Omega.{arith}
 use mathlib.Core.Path.{_∙_, sym}
 use borrow.Author.Needs.{needs}
 use Rattle.hgn.specs.Meaning.{literals}
-use Rattle.hgn.specs.Shop.{domain}
+use Rattle.hgn.specs.Replay.{rulesOf}
 use Rattle.hgn.proofs.Checked.{shop-counts}
 use Rattle.network.proofs.Tables.{shop-passes, starts-fit}
 use Rattle.needed.specs.Gathered.{WantedAll}
@@ -12,12 +12,13 @@ use Rattle.needed.proofs.least.Gathered.with_needs.Statement.{statement
 use Rattle.needed.proofs.least.Gathered.with_needs.Tie as tie
 
 returns : tie.Need-returns
-returns c w n k =
+returns c P is n k =
     let b = c .before .before .before .before .before in
     let s = b .before .before .before .before .before in
-    c .with-rows .ensures _ w (shop-counts _ (shop-passes (s .pre .0)) .0 ∙ sym (b .word .ensures)) (s .pre .2)
-    (span-rows (λ rs. WantedAll (domain (s .args .shop .now)) (s .args .atoms .now) w (literals 3 4 rs)) _ _ _ (c .before .before .tags-of .ensures) (c .before .values-of .ensures)
-    (block-wanted (s .pre .0) _ (s .pre .1) _ w n))
+    let f = c .before in
+    c .with-rows .ensures _ P is (shop-counts _ (shop-passes (s .pre .0)) .0 ∙ sym (b .word .ensures)) (s .pre .2)
+    (span-rows (λ rs. WantedAll (literals 3 4 rs) (rulesOf (s .args .shop .now)) P) _ _ _ (f .before .tags-of .ensures) (f .values-of .ensures)
+    (block-wanted (s .pre .0) _ (s .pre .1) P n))
     k
 
 pub with-needs-spec : {M : Type 1} → statement M

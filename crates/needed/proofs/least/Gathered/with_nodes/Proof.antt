@@ -2,22 +2,20 @@
 use Prim.Native.Nat.{_-_}
 use native.Mathlib.Omega.{arith}
 use mathlib.Core.Path.{_∙_, sym}
-use mathlib.Core.List.{List}
 use borrow.Author.Needs.{needs}
-use Rattle.hgn.specs.Network.{Waiting}
 use Rattle.hgn.specs.Run.{use-method}
-use Rattle.hgn.specs.Shop.{domain}
+use Rattle.hgn.specs.Replay.{rulesOf}
 use Rattle.hgn.proofs.Checked.{shop-counts}
 use Rattle.network.proofs.Tables.{shop-passes}
 use Rattle.network.proofs.NodeWalks.{ahead}
-use Rattle.needed.specs.Gathered.{Onward}
+use Rattle.needed.specs.Gathered.{OnwardFrom}
 use Rattle.needed.proofs.Brings.{NodesLeft, nodes-all, nodes-next, node-here, node-wanted}
 use Rattle.needed.proofs.least.Gathered.with_nodes.Statement.{statement}
 use Rattle.needed.proofs.least.Gathered.with_nodes.Tie as tie
 
 abbrev Inv-loop : tie.InvT-loop
 Inv-loop shop order ends starts atoms table method actions end next₀ row₀ next row =
-    NodesLeft shop order ends method end row × ((w : List Waiting) → Onward (domain shop) atoms w (use-method method) next₀ next)
+    NodesLeft shop order ends method end row × OnwardFrom (rulesOf shop) atoms (use-method method) next₀ next
 
 abbrev μ-loop : tie.MeasureT-loop
 μ-loop shop order ends starts atoms table method actions end next₀ row₀ next row = end - row
@@ -29,10 +27,10 @@ loop-again c =
     let b = l .before .before .before in
     let s = b .before .before .before .before .before in (
       nodes-next (i .0) (l .loop-test .taken),
-      λ w n h.
-          c .with-goal .ensures (domain (s .args .shop .now)) w (shop-counts _ (shop-passes (s .pre .0)) .0 ∙ sym (b .word .ensures)) (s .pre .2)
-          (node-wanted _ _ w _ _ n (node-here (i .0) (l .loop-test .taken)))
-          (i .1 w n h),
+      λ P is n h.
+          c .with-goal .ensures (s .args .shop .now) P is (shop-counts _ (shop-passes (s .pre .0)) .0 ∙ sym (b .word .ensures)) (s .pre .2)
+          (node-wanted _ P _ _ n (node-here (i .0) (l .loop-test .taken)))
+          (i .1 P is n h),
     )
 
 pub with-nodes-spec : {M : Type 1} → statement M
@@ -43,7 +41,7 @@ with-nodes-spec =
     μ-loop
     (λ c κs. search needs)
     (λ c κs. search needs)
-    (λ c. (nodes-all (c .method-nodes .ensures), λ w n h. h))
+    (λ c. (nodes-all (c .method-nodes .ensures), λ P is n h. h))
     (λ c. search needs)
     (λ c. search needs)
     (λ c. ahead (c .before .loop-test .taken) (c .before .before .loop .inv .0 .walk) .inside)

@@ -9,7 +9,7 @@ with-row-spec =
     tie.close
     (tie.spec
     (λ c κs. search needs)
-    (λ c d w e o h k. c .with-maker .ensures d w e o (h _ (row-true _ _ _ _ (c .before .if1 .taken))) k)
+    (λ c shop P is e o h k. c .with-maker .ensures shop P is e o (h _ (row-true _ _ _ _ (c .before .if1 .taken))) k)
     (λ c κs. search needs)
-    (λ c d w e o h k. c .with-maker2 .ensures d w e o (h _ (row-false _ _ _ _ (c .before .before .if1 .left) (c .before .if2 .taken))) k)
-    (λ c d w e o h k. k))
+    (λ c shop P is e o h k. c .with-maker2 .ensures shop P is e o (h _ (row-false _ _ _ _ (c .before .before .if1 .left) (c .before .if2 .taken))) k)
+    (λ c shop P is e o h k. k))

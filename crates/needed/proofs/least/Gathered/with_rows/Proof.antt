@@ -12,18 +12,18 @@ use Rattle.needed.proofs.least.Gathered.with_rows.Tie as tie
 
 abbrev Inv-loop : tie.InvT-loop
 Inv-loop atoms table actions tags values yes' no' n next₀ i₀ next i =
-    WithMakers (λ d w. WantedAll d atoms w (literals yes' no' (zipWith row tags values))) atoms table actions next₀ next
+    WithMakers (WantedAll (literals yes' no' (zipWith row tags values))) atoms table actions next₀ next
 
 abbrev μ-loop : tie.MeasureT-loop
 μ-loop atoms table actions tags values yes' no' n next₀ i₀ next i = n - i
 
 loop-again : tie.Need-loop-again Inv-loop μ-loop
-loop-again c d w e o h k =
+loop-again c shop P is e o h k =
     let l = c .before .before .before in
     let n = l .before .before .rows .ensures in
-    c .with-row .ensures d w e o
+    c .with-row .ensures shop P is e o
     (λ x m. h x (row-among _ _ _ _ _ (omega (arith, n, l .loop-test .taken)) (omega (arith, n, l .loop-test .taken)) x m))
-    (l .before .loop .inv d w e o h k)
+    (l .before .loop .inv shop P is e o h k)
 
 pub with-rows-spec : {M : Type 1} → statement M
 with-rows-spec =
@@ -32,7 +32,7 @@ with-rows-spec =
     Inv-loop
     μ-loop
     (λ c κs. search needs)
-    (λ c d w e o h k. k)
+    (λ c shop P is e o h k. k)
     (λ c. search needs)
     (λ c. search needs)
     (λ c. search needs)
