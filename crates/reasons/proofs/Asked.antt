@@ -14,6 +14,7 @@ use Rattle.hgn.specs.Network as Network
 use Rattle.hgn.specs.Network.{free}
 use Rattle.hgn.specs.Run.{actionAt, methodAt}
 use Rattle.hgn.specs.Shop.{domain, actionCount, methodCount}
+use Rattle.hgn.specs.Replay.{rulesOf}
 use Rattle.spans.specs.Index.{tagsOf, valuesOf}
 use Rattle.spans.specs.declared.index.Span.{Span}
 use Rattle.formulas.specs.Spanned.{spanRows}
@@ -36,7 +37,7 @@ module _ (shop : List ℕ) {m : Move} (e : m ≡ Release) where
   unfolding ready waitingOf
   ready-release order s g p = rw e p
 
-  pub wanted-release : (g : Network.Waiting) → true ≡ wanted (domain shop) g (knownOf m)
+  pub wanted-release : (g : Network.Waiting) → true ≡ wanted (rulesOf shop) g (knownOf m)
   unfolding wanted
   wanted-release g = rw e
 
@@ -44,7 +45,7 @@ module _ (shop : List ℕ) {m : Move} (e : m ≡ Release) where
   unfolding idle
   idle-release s = rw e
 
-  pub lower-release : (w : List Network.Waiting) (p : ℕ) → false ≡ lowerToo (domain shop) w p (knownOf m)
+  pub lower-release : (w : List Network.Waiting) (p : ℕ) → false ≡ lowerToo (rulesOf shop) w p (knownOf m)
   unfolding lowerToo
   lower-release w p = rw e
 
@@ -59,7 +60,7 @@ module _ (shop : List ℕ) {m : Move} {k : ℕ} (e : m ≡ Use k) where
   unfolding ready
   ready-method order s g rows n p = rw e (p ∙ ap (allHold s) n)
 
-  pub wanted-method : (g : Network.Waiting) → true ≡ wanted (domain shop) g (knownOf m)
+  pub wanted-method : (g : Network.Waiting) → true ≡ wanted (rulesOf shop) g (knownOf m)
   unfolding wanted
   wanted-method g = rw e
 
@@ -67,7 +68,7 @@ module _ (shop : List ℕ) {m : Move} {k : ℕ} (e : m ≡ Use k) where
   unfolding idle
   idle-method s = rw e
 
-  pub lower-method : (w : List Network.Waiting) (p : ℕ) → false ≡ lowerToo (domain shop) w p (knownOf m)
+  pub lower-method : (w : List Network.Waiting) (p : ℕ) → false ≡ lowerToo (rulesOf shop) w p (knownOf m)
   unfolding lowerToo
   lower-method w p = rw e
 
@@ -99,7 +100,7 @@ module _ {shop order endTable startTable : List ℕ} (ix : Indexed shop order en
     ready-action s g p = rw e (p ∙ ap (allHold s) needs-are)
 
     pub wanted-action : {r : Bool} (g : Entry) → r ≡ relevant (literals 5 6 (spanRows shop order rows)) (nodeOf (spanRows shop order (g .rows)) .formula)
-        → r ≡ wanted (domain shop) (waitingOf shop order g) (knownOf m)
+        → r ≡ wanted (rulesOf shop) (waitingOf shop order g) (knownOf m)
     unfolding wanted waitingOf
     wanted-action g p = rw e (p ∙ ap (λ (l : List Literal). relevant l (nodeOf (spanRows shop order (g .rows)) .formula)) effects-are)
 
@@ -110,7 +111,8 @@ module _ {shop order endTable startTable : List ℕ} (ix : Indexed shop order en
         rw e (p ∙ ap₂ (λ (x y : List ℕ). allHold s (literals 5 6 (zipWith row x y))) a b ∙ ap (allHold s) effects-are)
 
     pub lower-action : {r : Bool} (w : List Network.Waiting) (p : ℕ)
-        → r ≡ any (λ g. relevant (literals 5 6 (spanRows shop order rows)) (g .formula) && free w g) (take p w) → r ≡ lowerToo (domain shop) w p (knownOf m)
+        → r ≡ any (λ g. relevant (literals 5 6 (spanRows shop order rows)) (g .formula) && free w g) (take p w)
+        → r ≡ lowerToo (rulesOf shop) w p (knownOf m)
     unfolding lowerToo
     lower-action w p q = rw e (q ∙ ap (λ (l : List Literal). any (λ g. relevant l (g .formula) && free w g) (take p w)) effects-are)
 

@@ -15,6 +15,7 @@ use Rattle.hgn.specs.Meaning.{nodeOf, Literal}
 use Rattle.hgn.specs.State.{State, formulaHolds, relevant}
 use Rattle.hgn.specs.Network as Network
 use Rattle.hgn.specs.Network.{free, goalAt, noGoal}
+use Rattle.hgn.specs.Run.{Problem}
 use Rattle.spans.specs.Index as Index
 use Rattle.spans.specs.Index.{columnPart, tagsOf, layoutOf}
 use Rattle.scan.specs.declared.rows.Layout.{Layout}
@@ -152,20 +153,23 @@ module _ (shop order : List ℕ) where
 
       -- With so many steps left.
       module _ (left : ℕ) where
-        pub few-below : left < w .count → true ≡ tooFewLeft left s list
+        abbrev here : Problem
+        here = record { state = s; waiting = list }
+
+        pub few-below : left < w .count → true ≡ tooFewLeft left here
         unfolding tooFewLeft
         few-below h = rw (counted, lt-ltb left (w .count) h)
 
-        pub few-above : w .count ≤ left → (left ≡ w .count → ⊥) → false ≡ tooFewLeft left s list
+        pub few-above : w .count ≤ left → (left ≡ w .count → ⊥) → false ≡ tooFewLeft left here
         unfolding tooFewLeft
         few-above h n = rw (counted, le-ltb left (w .count) h, ne-eqb left (w .count) n)
 
         module _ (e : left ≡ w .count) {a : Bool} (r : a ≡ all holds list) where
-          pub few-held : a ≡ true → false ≡ tooFewLeft left s list
+          pub few-held : a ≡ true → false ≡ tooFewLeft left here
           unfolding tooFewLeft
           few-held q = rw (counted, le-ltb left (w .count) (omega arith), eq-eqb left (w .count) e, told r q)
 
-          pub few-open : a ≡ false → true ≡ tooFewLeft left s list
+          pub few-open : a ≡ false → true ≡ tooFewLeft left here
           unfolding tooFewLeft
           few-open q = rw (counted, le-ltb left (w .count) (omega arith), eq-eqb left (w .count) e, told r q)
 

@@ -14,11 +14,12 @@ use Rattle.hgn.specs.Trace.{step}
 use Rattle.reading.proofs.Laws.{told}
 use Rattle.network.specs.Entries.{waitingOf, listOf, entryAt}
 use Rattle.steps.specs.Moves.{Known, knownOf}
+use Rattle.steps.specs.Steps.{problemIn}
 use Rattle.network.specs.Tables.{Indexed}
 use Rattle.steps.specs.declared.moves.Move.{Move}
 use Rattle.steps.specs.declared.moves.Move.the-variants.{Release, Act, Use}
 use Rattle.network.specs.declared.waiting.Entry.{Entry}
-use Rattle.network.specs.declared.waiting.Waiting.{Waiting}
+use Rattle.steps.specs.declared.problem.Problem.{Problem}
 use Rattle.pruning.specs.Rules.{ready, stateAfter, sameState, commute, couldGoFirst}
 use Rattle.reasons.specs.Tests.{moveNumber, actionNumber, before, swapReady}
 use Rattle.reasons.proofs.Reading.{number-read, before-is}
@@ -78,22 +79,32 @@ module _ (d : Domain) (s : State) where
       pub swap-asked : b ≡ true → {c : Bool} → c ≡ commute d s y x → c ≡ swapReady d s h y g x
       swap-asked q e = rw (told p t, then-ready q) e
 
-module _ {shop order endTable startTable : List ℕ} (ix : Indexed shop order endTable startTable) (s : State) (w : Waiting) (y : Move) (q : ℕ) (x : Move) (p : ℕ)
+module _ {shop order endTable startTable : List ℕ} (ix : Indexed shop order endTable startTable) (b : Problem) (y : Move) (q : ℕ) (x : Move) (p : ℕ)
     (h : Known (actionCount shop) (methodCount shop) y) (k : Known (actionCount shop) (methodCount shop) x) {a : Bool} (f : a ≡ before y q x p) where
   abbrev Could : Bool → Type 0
-  Could r = r ≡ couldGoFirst (domain shop) s (listOf shop order w) (step (moveNumber y) q) (step (moveNumber x) p)
+  Could r = r ≡ couldGoFirst (domain shop) (problemIn shop order b) (step (moveNumber y) q) (step (moveNumber x) p)
 
   pub could-not-first : a ≡ false → Could false
   unfolding couldGoFirst
   could-not-first e = rw (sym (before-is ix y q x p h k) ∙ told f e)
 
-  module _ (t : a ≡ true) {b : Bool} (g : b ≡ free (listOf shop order w) (waitingOf shop order (entryAt w p))) where
-    pub could-not-free : b ≡ false → Could false
+  module _ (t : a ≡ true) {c : Bool} (g : c ≡ free (listOf shop order (b .waiting)) (waitingOf shop order (entryAt (b .waiting) p))) where
+    pub could-not-free : c ≡ false → Could false
     unfolding couldGoFirst
-    could-not-free e = rw (sym (before-is ix y q x p h k) ∙ told f t, goal-at shop order w p, told g e)
+    could-not-free e = rw (sym (before-is ix y q x p h k) ∙ told f t, goal-at shop order (b .waiting) p, told g e)
 
-    pub could-asked : b ≡ true → {last here : Entry} → last ≡ entryAt w q → here ≡ entryAt w p → {c : Bool}
-        → c ≡ swapReady (domain shop) s (waitingOf shop order last) (knownOf y) (waitingOf shop order here) (knownOf x) → Could c
+    pub could-asked : c ≡ true → {last here : Entry} → last ≡ entryAt (b .waiting) q → here ≡ entryAt (b .waiting) p → {r : Bool}
+        → r ≡ swapReady (domain shop) (b .atoms) (waitingOf shop order last) (knownOf y) (waitingOf shop order here) (knownOf x) → Could r
     unfolding couldGoFirst
     could-asked e l m o =
-        o ∙ rw (sym (before-is ix y q x p h k) ∙ told f t, goal-at shop order w p, goal-at shop order w q, told g e, number-read ix y h, number-read ix x k, l, m)
+        o
+        ∙ rw (
+          sym (before-is ix y q x p h k) ∙ told f t,
+          goal-at shop order (b .waiting) p,
+          goal-at shop order (b .waiting) q,
+          told g e,
+          number-read ix y h,
+          number-read ix x k,
+          l,
+          m,
+        )

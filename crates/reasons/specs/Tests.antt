@@ -3,10 +3,10 @@ use Prim.Native.Nat.{ℕ, _+_, _-_}
 use mathlib.Core.Bool.{Bool, true, false, cond, _&&_}
 use lib.Dec.{eqb, leb, ltb}
 use Rattle.hgn.specs.Meaning.{Domain}
-use Rattle.hgn.specs.State.{State, relevant}
+use Rattle.hgn.specs.State.{State}
 use Rattle.hgn.specs.Network.{Waiting}
 use Rattle.hgn.specs.Run as Run
-use Rattle.hgn.specs.Run.{firstMethod, actionAt}
+use Rattle.hgn.specs.Run.{firstMethod, actionAt, Rules}
 use Rattle.steps.specs.declared.moves.Move.{Move}
 use Rattle.steps.specs.declared.moves.Move.the-variants.{Release, Act, Use}
 use Rattle.pruning.specs.Rules.{ready, stateAfter, commute}
@@ -32,12 +32,12 @@ before y q x p =
     cond (ltb p q) true
     (cond (eqb p q) (cond (ltb 0 (actionNumber x)) (ltb (actionNumber x) (actionNumber y)) false) false)
 
--- An action is relevant to the goal.
-unfoldable pub wanted : Domain → Waiting → Run.Move → Bool
-wanted d g Run.release = true
-wanted d g (Run.act k) = relevant (actionAt d k .effects) (g .formula)
-wanted d g (Run.use-method m) = true
-wanted d g Run.unknown = true
+-- An action may be taken for the goal.
+unfoldable pub wanted : Rules → Waiting → Run.Move → Bool
+wanted r g Run.release = true
+wanted r g (Run.act k) = r .mayAct (actionAt (r .domain) k) (g .formula)
+wanted r g (Run.use-method m) = true
+wanted r g Run.unknown = true
 
 -- With so many waiting before the move and so many steps left after it, more goals wait then than steps are left.
 unfoldable pub crowded : ℕ → ℕ → Run.Move → Bool

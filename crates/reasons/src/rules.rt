@@ -23,11 +23,13 @@ ghost use Rattle.hgn.specs.Meaning.{literals as literalsOf};
 ghost use Rattle.hgn.specs.State.{formulaHolds, relevant};
 ghost use Rattle.hgn.specs.Network.{free as freeIn};
 ghost use Rattle.hgn.specs.Shop.{domain, actionCount, methodCount};
+ghost use Rattle.hgn.specs.Replay.{rulesOf};
 ghost use Rattle.hgn.specs.Trace.{step};
 ghost use Rattle.network.specs.Entries.{listOf, waitingOf};
 ghost use Rattle.formulas.specs.Spanned.{spanRows};
 ghost use Rattle.network.specs.Tables.{Indexed};
 ghost use Rattle.steps.specs.Moves.{Known, knownOf};
+ghost use Rattle.steps.specs.Steps.{problemIn};
 ghost use Rattle.pruning.specs.Rules as Rules;
 ghost use Rattle.reasons.specs.Tests.{moveNumber, actionNumber, before, swapReady, crowded as isCrowded, wanted as isWanted};
 
@@ -70,7 +72,7 @@ pub fn wanted<'a>(
     mv: Move,
 ) -> bool
     requires { ⌜ Indexed (now shop) (now order) (now ends) (now starts) × Known (actionCount (now shop)) (methodCount (now shop)) mv ⌝ }
-    ensures { λ r. ⌜ r ≡ isWanted (domain (now (shop .entry))) (waitingOf (now (shop .entry)) (now (order .entry)) goal) (knownOf mv) ⌝ }
+    ensures { λ r. ⌜ r ≡ isWanted (rulesOf (now (shop .entry))) (waitingOf (now (shop .entry)) (now (order .entry)) goal) (knownOf mv) ⌝ }
 {
     match mv {
         Move::Release => true,
@@ -128,7 +130,10 @@ fn helps_lower<'a>(
     place: Place,
 ) -> bool
     requires { ⌜ (place .0 ≤ waiting .count) × (waiting .count ≤ 64) ⌝ }
-    ensures { λ r. ⌜ r ≡ any (λ g. relevant (literalsOf 5 6 (spanRows (now (shop .entry)) (now (order .entry)) rows)) (g .formula) && freeIn (listOf (now (shop .entry)) (now (order .entry)) waiting) g) (take (place .0) (listOf (now (shop .entry)) (now (order .entry)) waiting)) ⌝ }
+    ensures { λ r. ⌜ r ≡ any
+        (λ g. relevant (literalsOf 5 6 (spanRows (now (shop .entry)) (now (order .entry)) rows)) (g .formula)
+        && freeIn (listOf (now (shop .entry)) (now (order .entry)) waiting) g)
+        (take (place .0) (listOf (now (shop .entry)) (now (order .entry)) waiting)) ⌝ }
 {
     let end = place.0;
     let mut i: u16 = 0;
@@ -158,7 +163,7 @@ pub fn lower_too<'a>(
 ) -> bool
     requires { ⌜ Indexed (now shop) (now order) (now ends) (now starts) × Known (actionCount (now shop)) (methodCount (now shop)) mv ⌝ }
     requires { ⌜ (place .0 ≤ waiting .count) × (waiting .count ≤ 64) ⌝ }
-    ensures { λ r. ⌜ r ≡ Rules.lowerToo (domain (now (shop .entry))) (listOf (now (shop .entry)) (now (order .entry)) waiting) (place .0) (knownOf mv) ⌝ }
+    ensures { λ r. ⌜ r ≡ Rules.lowerToo (rulesOf (now (shop .entry))) (listOf (now (shop .entry)) (now (order .entry)) waiting) (place .0) (knownOf mv) ⌝ }
 {
     match mv {
         Move::Release => false,
@@ -192,7 +197,7 @@ fn goals_hold<'a>(shop: &'a [u16], order: &'a [u16], atoms: &[bool; 256], waitin
 // Too few steps are left for the goals that wait: each takes a release, and one more step is wanted where one of them does not hold.
 pub fn too_few_left<'a>(shop: &'a [u16], order: &'a [u16], problem: Problem, left: u16) -> bool
     requires { ⌜ problem .waiting .count ≤ 64 ⌝ }
-    ensures { λ r. ⌜ r ≡ Rules.tooFewLeft left (problem .atoms) (listOf (now (shop .entry)) (now (order .entry)) (problem .waiting)) ⌝ }
+    ensures { λ r. ⌜ r ≡ Rules.tooFewLeft left (problemIn (now (shop .entry)) (now (order .entry)) problem) ⌝ }
 {
     let waiting = problem.waiting;
     if left < waiting.count {
@@ -310,7 +315,8 @@ fn swap_ready<'a>(
     mv: Move,
 ) -> bool
     requires { ⌜ Indexed (now shop) (now order) (now ends) (now starts) × Known (actionCount (now shop)) (methodCount (now shop)) last × Known (actionCount (now shop)) (methodCount (now shop)) mv ⌝ }
-    ensures { λ r. ⌜ r ≡ swapReady (domain (now (shop .entry))) atoms (waitingOf (now (shop .entry)) (now (order .entry)) «last_goal») (knownOf last) (waitingOf (now (shop .entry)) (now (order .entry)) goal) (knownOf mv) ⌝ }
+    ensures { λ r. ⌜ r ≡ swapReady (domain (now (shop .entry))) atoms
+        (waitingOf (now (shop .entry)) (now (order .entry)) «last_goal») (knownOf last) (waitingOf (now (shop .entry)) (now (order .entry)) goal) (knownOf mv) ⌝ }
 {
     if ready(shop, order, ends, starts, &atoms, goal, mv) {
         let next = state_after(shop, order, ends, starts, atoms, mv);
@@ -335,7 +341,8 @@ pub fn could_go_first<'a>(
 ) -> bool
     requires { ⌜ Indexed (now shop) (now order) (now ends) (now starts) × (before .waiting .count ≤ 64) ⌝ }
     requires { ⌜ Known (actionCount (now shop)) (methodCount (now shop)) last × Known (actionCount (now shop)) (methodCount (now shop)) mv ⌝ }
-    ensures { λ r. ⌜ r ≡ Rules.couldGoFirst (domain (now (shop .entry))) (before .atoms) (listOf (now (shop .entry)) (now (order .entry)) (before .waiting)) (step (moveNumber last) («last_place» .0)) (step (moveNumber mv) (place .0)) ⌝ }
+    ensures { λ r. ⌜ r ≡ Rules.couldGoFirst (domain (now (shop .entry))) (problemIn (now (shop .entry)) (now (order .entry)) before)
+        (step (moveNumber last) («last_place» .0)) (step (moveNumber mv) (place .0)) ⌝ }
 {
     if goes_first(last, last_place, mv, place) {
         let waiting = before.waiting;

@@ -15,5 +15,6 @@ goes-first-spec =
     let a = c .before .before .before .before .before .before .before .before .before .args in
     before-action (a .last) _ (a .mv) _ (c .before .before .before .if2 .taken) (c .before .before .action-of .ensures) (c .before .if3 .taken) (c .action-of2 .ensures))
     (λ c.
-    let a = c .before .before .before .before .before .before .before .before .args in before-other (a .last) _ (a .mv) _ (c .before .before .if2 .taken) (c .before .action-of .ensures) (c .if3 .left))
+    let a = c .before .before .before .before .before .before .before .before .args in
+    before-other (a .last) _ (a .mv) _ (c .before .before .if2 .taken) (c .before .action-of .ensures) (c .if3 .left))
     (λ c. let a = c .before .before .before .before .before .before .args in before-above (a .last) _ (a .mv) _ (c .before .before .before .if1 .left) (c .if2 .left)))

@@ -38,14 +38,18 @@ helps-lower-spec =
     (λ c κs. search needs)
     (λ c κs. search needs)
     (λ c.
-    let s = c .before .before .before .before .before .before .before .before .before .before in
-    lower-found _ _ _ (full s) (s .pre .1) _ _ _ (s .pre .0) (c .before .before .before .before .before .before .before .loop .inv) (c .before .before .before .before .before .before .loop-test .taken)
-    (c .before .before .before .before .before .goal .ensures) (c .before .before .before .helps .ensures) (c .before .before .if1 .taken) (c .before .is-free .ensures) (c .if2 .taken))
+    let f = c .before .before .before in
+    let l = f .before .before .before in
+    let s = l .before .before .before .before in
+    lower-found _ _ _ (full s) (s .pre .1) _ _ _ (s .pre .0) (l .before .loop .inv) (l .loop-test .taken) (f .before .before .goal .ensures)
+    (f .helps .ensures) (c .before .before .if1 .taken) (c .before .is-free .ensures) (c .if2 .taken))
     (λ c. search needs)
     (λ c.
-    let s = c .before .before .before .before .before .before .before .before .before .before in
-    lower-held _ _ _ (full s) (s .pre .1) _ _ _ (s .pre .0) (c .before .before .before .before .before .before .before .loop .inv) (c .before .before .before .before .before .before .loop-test .taken)
-    (c .before .before .before .before .before .goal .ensures) (c .before .before .before .helps .ensures) (c .before .before .if1 .taken) (c .before .is-free .ensures) (c .if2 .left))
+    let f = c .before .before .before in
+    let l = f .before .before .before in
+    let s = l .before .before .before .before in
+    lower-held _ _ _ (full s) (s .pre .1) _ _ _ (s .pre .0) (l .before .loop .inv) (l .loop-test .taken) (f .before .before .goal .ensures)
+    (f .helps .ensures) (c .before .before .if1 .taken) (c .before .is-free .ensures) (c .if2 .left))
     (λ c. search needs)
     (λ c.
     let s = c .before .before .before .before .before .before .before .before in

@@ -13,9 +13,13 @@ swap-ready-spec =
     (λ c κs. let s = c .before .before .before .before .before .before .before .before .before in (s .pre .0, s .pre .1))
     (λ c κs. c .before .before .before .before .before .before .before .before .before .before .before .pre)
     (λ c.
-    let a = c .before .before .before .before .before .before .before .before .before .before .before .before .args in
-    swap-asked _ _ _ _ (knownOf (a .last)) (knownOf (a .mv)) (c .before .before .before .before .before .before .ready .ensures) (c .before .before .before .before .before .if1 .taken) (c .before .before .before .before .state-after .ensures) (c .before .before .ready2 .ensures) (c .before .if2 .taken) (c .commute .ensures))
+    let f = c .before .before .before .before in
+    let a = f .before .before .before .before .before .before .before .before .args in
+    swap-asked _ _ _ _ (knownOf (a .last)) (knownOf (a .mv)) (f .before .before .ready .ensures) (f .before .if1 .taken) (f .state-after .ensures)
+    (c .before .before .ready2 .ensures) (c .before .if2 .taken) (c .commute .ensures))
     (λ c.
-    let a = c .before .before .before .before .before .before .before .before .before .before .before .args in
-    swap-stuck _ _ _ _ (knownOf (a .last)) (knownOf (a .mv)) (c .before .before .before .before .before .ready .ensures) (c .before .before .before .before .if1 .taken) (c .before .before .before .state-after .ensures) (c .before .ready2 .ensures) (c .if2 .left))
+    let f = c .before .before .before in
+    let a = f .before .before .before .before .before .before .before .before .args in
+    swap-stuck _ _ _ _ (knownOf (a .last)) (knownOf (a .mv)) (f .before .before .ready .ensures) (f .before .if1 .taken) (f .state-after .ensures)
+    (c .before .ready2 .ensures) (c .if2 .left))
     (λ c. let a = c .before .before .before .before .before .before .before .args in swap-unready _ _ _ _ (knownOf (a .last)) (knownOf (a .mv)) (c .before .ready .ensures) (c .if1 .left)))

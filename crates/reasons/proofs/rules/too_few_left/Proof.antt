@@ -16,6 +16,12 @@ too-few-left-spec =
     (tie.spec
     (λ c. let s = c .before .before .before .before .before in few-below _ _ _ (full s) (s .pre) _ _ (c .if1 .taken))
     (λ c κs. search needs)
-    (λ c. let s = c .before .before .before .before .before .before .before .before .before .before .before in few-held _ _ _ (full s) (s .pre) _ _ (c .before .before .before .before .if2 .taken) (c .before .goals-hold .ensures) (c .if3 .taken))
-    (λ c. let s = c .before .before .before .before .before .before .before .before .before .before .before in few-open _ _ _ (full s) (s .pre) _ _ (c .before .before .before .before .if2 .taken) (c .before .goals-hold .ensures) (c .if3 .left))
+    (λ c.
+    let f = c .before .before .before .before in
+    let s = f .before .before .before .before .before .before .before in
+    few-held _ _ _ (full s) (s .pre) _ _ (f .if2 .taken) (c .before .goals-hold .ensures) (c .if3 .taken))
+    (λ c.
+    let f = c .before .before .before .before in
+    let s = f .before .before .before .before .before .before .before in
+    few-open _ _ _ (full s) (s .pre) _ _ (f .if2 .taken) (c .before .goals-hold .ensures) (c .if3 .left))
     (λ c. let s = c .before .before .before .before .before .before .before in few-above _ _ _ (full s) (s .pre) _ _ (c .before .before .if1 .left) (c .if2 .left)))
