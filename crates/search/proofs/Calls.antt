@@ -1,90 +1,78 @@
 -- The ways that the call ends, and the definition's answer in each. Assumes nothing.
 use Prim.Native.Nat.{ℕ, _+_, _*_, _<_, _≤_}
-use mathlib.Core.Path.{_≡_, refl, sym, ap, _∙_}
+use mathlib.Core.Path.{_≡_, refl, sym, ap, ap₂, _∙_}
 use mathlib.Core.Logic.{_≢_}
 use mathlib.Core.Bool.{true, false}
-use mathlib.Core.List.{List}
-use mathlib.Core.Option.{some}
+use mathlib.Core.List.{List, [], _∷_}
+use mathlib.Core.Option.{Option}
 use lib.ListN.{length}
 use borrow.Author.Tests.{lt-leb, le-leb}
-use Rattle.hgn.specs.Verdict as Verdict
-use Rattle.hgn.specs.Verdict.{passed, refused, numberOf, andThen, ask}
+use Rattle.hgn.specs.Questions as Questions
+use Rattle.hgn.specs.Questions.{_asks_, placed, Verdict, passed, refused, firstNo, told}
+use Rattle.hgn.specs.Run.{Step}
 use Rattle.hgn.specs.Order.{checkOrder}
-use Rattle.hgn.specs.Search.{Searched, searched, noTrace, written, mostDepth, checkSearch, search}
-use Rattle.hgn.proofs.Numbers.{Numbered, order-numbered}
-use Rattle.sheets.specs.Answers as Check
-use Rattle.sheets.specs.declared.check.Verdict as Code
-use Rattle.search.specs.Founds.{stepsFrom, shortestOf, traceOf, Called}
+use Rattle.hgn.specs.Search.{Searched, isFound, stepsFound, searched, noTrace, written, mostDepth, searchQuestions, search}
+use Rattle.hgn.proofs.Firsts.{told-passed}
+use Rattle.hgn.proofs.Numbers.{of-order, not-zero}
+use Rattle.hgn.proofs.Searches.{search-refused, search-passed, sheets-refused, depth-refused, room-refused, inputs-searched}
+use Rattle.reading.specs.Refusals.{refusalOf}
+use Rattle.reading.specs.declared.refusal.Refusal.{Refusal}
+use Rattle.search.specs.Founds.{searchedOf, shortestOf, traceOf}
 use Rattle.search.specs.declared.call.Shortest.{Shortest}
 use Rattle.search.proofs.Traces.{steps-length, trace-is}
 
 module _ (shop sheet : List ℕ) (depth : ℕ) (room : List ℕ) where
-  abbrev answer : ℕ → ℕ → Code.Verdict
-  answer number place = record { number = number; place = place }
+  abbrev answer : Questions.Refusal → List ℕ → Searched
+  answer q exit = record { refusal = q; room = exit }
 
-  -- What the definition gives is what the call gave.
-  called : (s : Searched) → search shop sheet depth room ≡ s → Called shop sheet depth room (answer (s .number) (s .place)) (s .room)
-  called s e = record {
-    answers = ap (λ (x : Searched). answer (x .number) (x .place)) (sym e);
-    leaves = ap (λ (x : Searched). x .room) (sym e);
-  }
+  -- What the call is to give.
+  abbrev Gives : Refusal → List ℕ → Type 0
+  Gives r exit = searchedOf r exit ≡ search shop sheet depth room
 
-  -- A refusal at a question before the search.
-  before-search : (number place : ℕ) → checkSearch shop sheet depth room ≡ refused number place → Called shop sheet depth room (answer number place) room
-  unfolding search noTrace
-  before-search number place e = called (noTrace room number place) (rw (e, search) refl)
+  -- It refuses by the first no.
+  refuses : (q : Questions.Refusal) → firstNo (searchQuestions shop sheet depth room) ≡ refused q → (r : Refusal) → refusalOf r ≡ q → Gives r room
+  unfolding noTrace
+  refuses q e r a = ap (λ (x : Questions.Refusal). answer x room) a ∙ sym (search-refused shop sheet depth room q e)
 
   -- A sheet is refused.
-  pub sheet-refused : (v : Code.Verdict) → v ≡ Check.answerOf (checkOrder shop sheet) → v .number ≢ 0 → Called shop sheet depth room v room
-  unfolding checkSearch andThen
-  sheet-refused v e z = go (checkOrder shop sheet) refl
+  pub sheet-refused : (r : Refusal) → refusalOf r ≡ told (checkOrder shop sheet) → r .number ≢ 0 → Gives r room
+  sheet-refused r e z = go (checkOrder shop sheet) refl
     where
-      go : (w : Verdict.Verdict) → checkOrder shop sheet ≡ w → Called shop sheet depth room v room
-      go passed w = absurd (z (ap (λ (x : Code.Verdict). x .number) e ∙ ap numberOf w))
-      go (refused number place) w = rw (e ∙ ap Check.answerOf w) (before-search number place (rw (w, checkSearch, andThen) refl))
+      go : (v : Verdict) → checkOrder shop sheet ≡ v → Gives r room
+      go passed w = absurd (z (ap (λ (x : Questions.Refusal). x .number) (e ∙ ap told w)))
+      go (refused q) w = refuses q (sheets-refused shop sheet depth room q w) r (e ∙ ap told w)
 
   -- A check that answers 0 has passed.
-  pub sheet-passes : (v : Code.Verdict) → v ≡ Check.answerOf (checkOrder shop sheet) → v .number ≡ 0 → checkOrder shop sheet ≡ passed
-  sheet-passes v e z = go (checkOrder shop sheet) refl (order-numbered shop sheet)
-    where
-      go : (w : Verdict.Verdict) → checkOrder shop sheet ≡ w → Numbered w → w ≡ passed
-      go passed w h = refl
-      go (refused number place) w h = absurd (h (sym (ap numberOf w) ∙ sym (ap (λ (x : Code.Verdict). x .number) e) ∙ z))
+  pub sheet-passes : (r : Refusal) → refusalOf r ≡ told (checkOrder shop sheet) → r .number ≡ 0 → checkOrder shop sheet ≡ passed
+  unfolding checkOrder
+  sheet-passes r e z = told-passed _ [] (refusalOf r) e (of-order _ not-zero shop sheet) z
 
   module _ (ok : checkOrder shop sheet ≡ passed) where
     -- The depth is too large.
-    pub too-deep : mostDepth < depth → Called shop sheet depth room (answer 41 0) room
-    unfolding checkSearch andThen ask
-    too-deep h = before-search 41 0 (rw (ok, lt-leb depth mostDepth h) refl)
+    pub too-deep : mostDepth < depth → (r : Refusal) → refusalOf r ≡ (41 asks false) .refusal → Gives r room
+    too-deep h = refuses _ (depth-refused shop sheet depth room ok (lt-leb depth mostDepth h))
 
     module _ (few : depth ≤ mostDepth) where
       -- The room is too short.
-      pub room-short : length room < 1 + 2 * depth → Called shop sheet depth room (answer 42 0) room
-      unfolding checkSearch andThen ask
-      room-short h = before-search 42 0 (rw (ok, le-leb depth mostDepth few, lt-leb (1 + 2 * depth) (length room) h) refl)
+      pub room-short : length room < 1 + 2 * depth → (r : Refusal) → refusalOf r ≡ (42 asks false) .refusal → Gives r room
+      room-short h = refuses _ (room-refused shop sheet depth room ok (le-leb depth mostDepth few) (lt-leb (1 + 2 * depth) (length room) h))
 
       module _ (fits : 1 + 2 * depth ≤ length room) (f : Shortest) (e : shortestOf f ≡ searched shop sheet depth) where
-        all-passed : checkSearch shop sheet depth room ≡ passed
-        unfolding checkSearch andThen ask
-        all-passed = rw (ok, le-leb depth mostDepth few, le-leb (1 + 2 * depth) (length room) fits) refl
-
-        asked : search shop sheet depth room ≡ written room (shortestOf f)
-        unfolding search
-        asked = rw (all-passed, search) (ap (written room) (sym e))
+        -- Only whether a trace was found is still asked.
+        asked : firstNo (searchQuestions shop sheet depth room) ≡ firstNo (43 asks isFound (shortestOf f) ∷ [])
+        asked =
+            inputs-searched shop sheet depth room (ok, few, fits)
+            ∙ ap (λ (o : Option (List Step)). firstNo (43 asks isFound o ∷ [])) (sym e)
 
         -- None is found.
-        pub no-trace : f .steps .found ≡ false → Called shop sheet depth room (answer 43 0) room
-        unfolding written noTrace
-        no-trace b = called (noTrace room 43 0) (asked ∙ rw b refl)
+        pub no-trace : f .steps .found ≡ false → (r : Refusal) → refusalOf r ≡ (43 asks false) .refusal → Gives r room
+        unfolding firstNo isFound
+        no-trace b = refuses _ (asked ∙ rw b)
 
         -- The trace is written.
         pub trace-found : f .steps .found ≡ true → f .length ≤ length (f .steps .moves) → f .length ≤ length (f .steps .places)
-            → (exit : List ℕ) → exit ≡ traceOf f room → Called shop sheet depth room (answer 0 (f .length)) exit
-        unfolding written
-        trace-found b m p exit w =
-            let is : shortestOf f ≡ some (stepsFrom 0 (f .length) (f .steps)) = rw b refl in
-            let c = called (written room (some (stepsFrom 0 (f .length) (f .steps)))) (asked ∙ ap (written room) is) in
-            record {
-              answers = ap (answer 0) (sym (steps-length f m p)) ∙ c .answers;
-              leaves = w ∙ trace-is f m p room ∙ c .leaves;
-            }
+            → (r : Refusal) → refusalOf r ≡ placed (f .length) (told passed) → (exit : List ℕ) → exit ≡ traceOf f room → Gives r exit
+        unfolding firstNo isFound stepsFound written
+        trace-found b m p r a exit w =
+            ap₂ answer (a ∙ ap (λ (n : ℕ). placed n (told passed)) (sym (steps-length f m p))) (w ∙ trace-is f m p room)
+            ∙ sym (search-passed shop sheet depth room (asked ∙ rw b) ∙ ap (λ (o : Option (List Step)). written room (stepsFound o)) (sym e) ∙ rw b)

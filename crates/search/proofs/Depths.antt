@@ -8,10 +8,7 @@ use mathlib.Core.Option.{Option, none, some}
 use lib.Dec.{leb}
 use borrow.Author.Tests.{leb-true, leb-false}
 use Rattle.hgn.specs.Lists.{from, firstSome}
-use Rattle.hgn.specs.Meaning.{Domain}
-use Rattle.hgn.specs.State.{State}
-use Rattle.hgn.specs.Network.{Waiting}
-use Rattle.hgn.specs.Run.{Step}
+use Rattle.hgn.specs.Run.{Step, Problem, Rules}
 use Rattle.pruning.specs.Pruned.{prunedOf, noStep, prunedShortest}
 use Rattle.search.specs.Founds.{stepsFrom, foundOf}
 use Rattle.search.specs.declared.found.Found.{Found}
@@ -25,33 +22,33 @@ module _ {B : Type 0} (f : ℕ → Option B) (i k : ℕ) where
   unfolding from firstSome
   none-here e = rw (e, firstSome)
 
-module _ (depth : ℕ) (d : Domain) (s : State) (w : List Waiting) where
+module _ (depth : ℕ) (r : Rules) (P : Problem) where
   -- The first trace of so many steps.
   abbrev pub atDepth : ℕ → Option (List Step)
-  atDepth k = prunedOf k d s w noStep 0 s w
+  atDepth k = prunedOf k r P noStep 0 P
 
   -- No trace of fewer than `i` steps is found.
   abbrev pub NoneBelow : ℕ → Type 0
-  NoneBelow i = prunedShortest depth d s w ≡ firstSome atDepth (from i (suc depth - i))
+  NoneBelow i = prunedShortest depth r P ≡ firstSome atDepth (from i (suc depth - i))
 
   none-below : NoneBelow 0
   unfolding prunedShortest
   none-below = let q : suc depth ≡ suc depth - 0 = omega arith in ap {B = Option (List Step)} (λ (k : ℕ). firstSome atDepth (from 0 k)) q
 
-  module _ (i : ℕ) (h : i ≤ depth) (below : NoneBelow i) (r : Found) (e : foundOf 0 i r ≡ atDepth i) where
-    counted : prunedShortest depth d s w ≡ firstSome atDepth (from i (suc (depth - i)))
+  module _ (i : ℕ) (h : i ≤ depth) (below : NoneBelow i) (f : Found) (e : foundOf 0 i f ≡ atDepth i) where
+    counted : prunedShortest depth r P ≡ firstSome atDepth (from i (suc (depth - i)))
     counted =
         let q : suc depth - i ≡ suc (depth - i) = omega arith in
         below ∙ ap {B = Option (List Step)} (λ (k : ℕ). firstSome atDepth (from i k)) q
 
-    pub found-first : r .found ≡ true → foundOf 0 i r ≡ prunedShortest depth d s w
+    pub found-first : f .found ≡ true → foundOf 0 i f ≡ prunedShortest depth r P
     found-first b =
-        let is : foundOf 0 i r ≡ some (stepsFrom 0 i r) = rw b refl in
-        is ∙ sym (some-here atDepth i (depth - i) (stepsFrom 0 i r) (sym e ∙ is)) ∙ sym counted
+        let is : foundOf 0 i f ≡ some (stepsFrom 0 i f) = rw b refl in
+        is ∙ sym (some-here atDepth i (depth - i) (stepsFrom 0 i f) (sym e ∙ is)) ∙ sym counted
 
-    pub none-yet : r .found ≡ false → NoneBelow (i + 1)
+    pub none-yet : f .found ≡ false → NoneBelow (i + 1)
     none-yet b =
-        let is : foundOf 0 i r ≡ none = rw b refl in
+        let is : foundOf 0 i f ≡ none = rw b refl in
         let p : suc i ≡ i + 1 = omega arith in
         let q : depth - i ≡ suc depth - (i + 1) = omega arith in
         counted ∙ none-here atDepth i (depth - i) (sym e ∙ is)
@@ -70,9 +67,9 @@ module _ (depth : ℕ) (d : Domain) (s : State) (w : List Waiting) where
       go false h =
           let p : depth < i = leb-false i depth h in
           let q : suc depth - i ≡ 0 = omega arith in
-          let r : 0 ≡ suc depth - suc i = omega arith in
+          let z : 0 ≡ suc depth - suc i = omega arith in
           below ∙ ap {B = Option (List Step)} (λ (k : ℕ). firstSome atDepth (from i k)) q
-          ∙ ap {B = Option (List Step)} (λ (k : ℕ). firstSome atDepth (from (suc i) k)) r
+          ∙ ap {B = Option (List Step)} (λ (k : ℕ). firstSome atDepth (from (suc i) k)) z
 
   -- Where none of fewer than `i` steps is found, the search may begin there.
   pub none-from : (i : ℕ) → ((k : ℕ) → k < i → atDepth k ≡ none) → NoneBelow i
@@ -80,9 +77,9 @@ module _ (depth : ℕ) (d : Domain) (s : State) (w : List Waiting) where
   none-from (suc i) h = none-next i (none-from i (λ k l. h k (omega arith))) (h i (omega arith))
 
   -- None at all.
-  pub none-found : (i : ℕ) → depth < i → NoneBelow i → (r : Found) → r .found ≡ false → foundOf 0 depth r ≡ prunedShortest depth d s w
+  pub none-found : (i : ℕ) → depth < i → NoneBelow i → (f : Found) → f .found ≡ false → foundOf 0 depth f ≡ prunedShortest depth r P
   unfolding from firstSome
-  none-found i h below r b =
+  none-found i h below f b =
       let q : suc depth - i ≡ 0 = omega arith in
-      let is : foundOf 0 depth r ≡ none = rw b refl in
+      let is : foundOf 0 depth f ≡ none = rw b refl in
       is ∙ sym (below ∙ ap {B = Option (List Step)} (λ (k : ℕ). firstSome atDepth (from i k)) q)

@@ -11,33 +11,37 @@ use lib.ListN.{length}
 use borrow.Author.Tests.{eqb-true, eqb-false, leb-true, leb-false}
 use Rattle.hgn.specs.Meaning.{Domain}
 use Rattle.hgn.specs.State.{State}
-use Rattle.hgn.specs.Network.{Waiting, goalAt}
-use Rattle.hgn.specs.Run.{Step, firstMethod}
+use Rattle.hgn.specs.Network.{Waiting, free, goalAt}
+use Rattle.hgn.specs.Run.{Step, firstMethod, Problem, Rules}
 use Rattle.hgn.specs.Questions.{passed}
 use Rattle.hgn.specs.Shop.{domain, actionCount, methodCount, checkShop}
 use Rattle.hgn.specs.Trace.{step}
-use Rattle.hgn.specs.Search.{movesOf}
+use Rattle.hgn.specs.Replay.{rulesOf}
+use Rattle.hgn.specs.Search.{movesOf, noSteps}
 use Rattle.hgn.proofs.Checked.{shop-counts}
 use Rattle.reading.proofs.Laws.{told}
-use Rattle.network.specs.Entries.{waitingOf, entriesOf, listOf, entryAt}
+use Rattle.network.specs.Entries.{waitingOf, listOf, entryAt}
 use Rattle.steps.specs.Moves.{Known, knownOf}
+use Rattle.steps.specs.Steps.{problemIn}
 use Rattle.network.specs.Tables.{Indexed}
 use Rattle.steps.specs.declared.moves.Move.{Move}
 use Rattle.steps.specs.declared.moves.Move.the-variants.{Release, Act, Use}
-use Rattle.steps.specs.declared.problem.Problem.{Problem}
+use Rattle.steps.specs.declared.problem.Problem as Record
 use Rattle.network.specs.declared.waiting.Entry.{Entry}
-use Rattle.network.proofs.Goals.{entries-length, list-length, goal-is}
+use Rattle.network.specs.declared.waiting.Waiting as Code
+use Rattle.network.proofs.Goals.{list-length}
 use Rattle.network.proofs.Tables.{shop-passes}
 use Rattle.pruning.specs.Rules.{ready, idle}
 use Rattle.pruning.specs.Pruned.{prunedOf, moveAt, movesFrom, placesFrom}
-use Rattle.pruning.proofs.Loops.{moves-count, moves-next, moves-end, places-next}
+use Rattle.pruning.proofs.Loops.{moves-count, moves-next, moves-end, places-next, not-free-none, pruned-places}
 use Rattle.search.specs.Founds.{stepsFrom, foundOf}
 use Rattle.reasons.specs.Tests.{nthMove, moveNumber, wanted, crowded}
 use Rattle.search.specs.Trials.{opens, Tries, tried}
 use Rattle.search.specs.declared.found.Found.{Found}
 use Rattle.search.specs.declared.trial.Tried.{Tried}
 use Rattle.reasons.proofs.Reading.{number-read}
-use Rattle.search.proofs.Trying.{open-not-idle, closed-none}
+use Rattle.reasons.proofs.Lower.{goal-at}
+use Rattle.search.proofs.Trying.{open-not-idle, closed-none, Trial}
 
 -- What was found, or not.
 pub found-none : (n k : ℕ) (r : Found) → r .found ≡ false → foundOf n k r ≡ none
@@ -57,9 +61,11 @@ module _ (f : Step → Option (List Step)) (d : Domain) where
   move-found p i h e = moves-next f d p i h ∙ ap (λ (o : Option (List Step)). orElse o (movesFrom f d p (suc i))) e
 
   -- Past a place where nothing is found.
-  pub place-past : (w : List Waiting) (p : ℕ) → p < length w → movesFrom f d p 0 ≡ none → placesFrom f d w p ≡ placesFrom f d w (suc p)
+  pub place-past : (w : List Waiting) (p : ℕ) → p < length w → movesFrom f d p 0 ≡ none → placesFrom f d w p ≡ placesFrom f d w (p + 1)
   unfolding orElse
-  place-past w p h e = places-next f d w p h ∙ ap (λ (o : Option (List Step)). orElse o (placesFrom f d w (suc p))) e
+  place-past w p h e =
+      places-next f d w p h ∙ ap (λ (o : Option (List Step)). orElse o (placesFrom f d w (suc p))) e
+      ∙ ap {B = Option (List Step)} (placesFrom f d w) (sym (add-one p))
 
   pub place-found : (w : List Waiting) (p : ℕ) → p < length w → {xs : List Step} → movesFrom f d p 0 ≡ some xs → placesFrom f d w p ≡ some xs
   unfolding orElse
@@ -110,57 +116,83 @@ moves-done shop passes f p i all e h =
     moves-end f (domain shop) p i (omega (arith, moves-count (domain shop), shop-counts shop passes .0, shop-counts shop passes .1))
 
 -- The place routine's ends.
-pub found-at-end : (d : Domain) (s₀ : State) (w₀ : List Waiting) (y : Step) (n : ℕ) (s : State) (w : List Waiting) (count : ℕ) → length w ≡ count → (r : Found)
-    → r .found ≡ eqb count 0 → foundOf n 0 r ≡ prunedOf 0 d s₀ w₀ y n s w
-unfolding prunedOf stepsFrom zipWith
-found-at-end d s₀ w₀ y n s [] count e r h = rw (h, sym e) refl
-found-at-end d s₀ w₀ y n s (g ∷ w) count e r h = rw (h, sym e, eqb·suc-zero (length w)) refl
+pub found-at-end : (r : Rules) (P₀ : Problem) (y : Step) (n : ℕ) (s : State) (w : List Waiting) (count : ℕ) → length w ≡ count → (f : Found)
+    → f .found ≡ eqb count 0 → foundOf n 0 f ≡ prunedOf 0 r P₀ y n (record { state = s; waiting = w })
+unfolding prunedOf noSteps stepsFrom zipWith
+found-at-end r P₀ y n s [] count e f h = rw (h, sym e) refl
+found-at-end r P₀ y n s (g ∷ w) count e f h = rw (h, sym e, eqb·suc-zero (length w)) refl
 
--- The move routine, from the record `problem` with `left` steps left, its first step at place `p`.
-module _ {shop order endTable startTable : List ℕ} (ix : Indexed shop order endTable startTable) (problem b : Problem) (y : Step) (left n : ℕ)
-    (full : length (problem .waiting .entries) ≡ 64) (few : problem .waiting .count ≤ 64) (p : ℕ) (inside : p < problem .waiting .count) where
-  abbrev w : List Waiting
-  w = listOf shop order (problem .waiting)
+-- The move routine, where it tries its steps.
+module _ {shop order endTable startTable : List ℕ} {problem b : Record.Problem} {y : Step} {left n p : ℕ}
+    (g : Trial shop order endTable startTable problem b y left n p) where
+  abbrev P : Problem
+  P = problemIn shop order problem
 
   abbrev finds : Step → Option (List Step)
-  finds = tried left (domain shop) (b .atoms) (listOf shop order (b .waiting)) y n (problem .atoms) w
-
-  size : length w ≡ problem .waiting .count
-  size = list-length shop order (problem .waiting) full few
-
-  -- A goal by its entry.
-  pub goal-here : {g : Entry} → g ≡ entryAt (problem .waiting) p → waitingOf shop order g ≡ goalAt w p
-  goal-here {g} e = ap (waitingOf shop order) e ∙ sym (goal-is shop order (entriesOf (problem .waiting)) p (omega (arith, entries-length (problem .waiting) full few)))
+  finds = tried left (rulesOf shop) (problemIn shop order b) y n P
 
   module _ (m : Move) (known : Known (actionCount shop) (methodCount shop) m) where
-    pub find-closed : {g : Entry} → g ≡ entryAt (problem .waiting) p → {r : Bool}
-        → r ≡ opens (domain shop) (problem .atoms) (waitingOf shop order g) left (problem .waiting .count) (knownOf m) → r ≡ false → finds (step (moveNumber m) p) ≡ none
+    abbrev x : Step
+    x = step (moveNumber m) p
+
+    abbrev opens-at : Entry → Bool
+    opens-at goal = opens (rulesOf shop) (problem .atoms) (waitingOf shop order goal) left (problem .waiting .count) (knownOf m)
+
+    pub find-closed : {goal : Entry} → goal ≡ entryAt (problem .waiting) p → {o : Bool} → o ≡ opens-at goal → o ≡ false → finds x ≡ none
     find-closed e o h =
-        closed-none left (domain shop) (b .atoms) (listOf shop order (b .waiting)) y n (problem .atoms) w (step (moveNumber m) p) _
-        (rw (size, number-read ix m known, sym (goal-here e)) (told o h))
+        closed-none (rulesOf shop) left (problemIn shop order b) y n P x _
+        (rw (list-length shop order (problem .waiting) (g .full) (g .few), number-read (g .ix) m known, goal-at shop order (problem .waiting) p, sym e) (told o h))
 
     -- Open, it is not idle.
-    pub find-open : (g : Entry) {r : Bool}
-        → r ≡ opens (domain shop) (problem .atoms) (waitingOf shop order g) left (problem .waiting .count) (knownOf m) → r ≡ true → idle (domain shop) (problem .atoms) (knownOf m) ≡ false
-    find-open g o h =
-        open-not-idle (crowded left (problem .waiting .count) (knownOf m)) (ready (domain shop) (problem .atoms) (waitingOf shop order g) (knownOf m)) (wanted (domain shop) (waitingOf shop order g) (knownOf m))
+    pub find-open : (goal : Entry) {o : Bool} → o ≡ opens-at goal → o ≡ true → idle (domain shop) (problem .atoms) (knownOf m) ≡ false
+    find-open goal o h =
+        open-not-idle (crowded left (problem .waiting .count) (knownOf m))
+        (ready (domain shop) (problem .atoms) (waitingOf shop order goal) (knownOf m)) (wanted (rulesOf shop) (waitingOf shop order goal) (knownOf m))
         (idle (domain shop) (problem .atoms) (knownOf m)) (told o h)
 
-    module _ {t : Tried} (tries : Tries shop order left b y problem n (step (moveNumber m) p) t) where
-      pub find-out : t .kept ≡ false → finds (step (moveNumber m) p) ≡ none
+    module _ {t : Tried} (tries : Tries shop order left b y problem n x t) where
+      pub find-out : t .kept ≡ false → finds x ≡ none
       find-out h = tries .goes-on _ ∙ rw h refl
 
       module _ (h : t .kept ≡ true) (r : Found)
-          (e : foundOf (n + 1) left r ≡ prunedOf left (domain shop) (problem .atoms) w (step (moveNumber m) p) (n + 1) (t .problem .atoms) (listOf shop order (t .problem .waiting))) where
-        on : finds (step (moveNumber m) p) ≡ Option·map (λ xs. step (moveNumber m) p ∷ xs) (foundOf (n + 1) left r)
+          (e : foundOf (n + 1) left r ≡ prunedOf left (rulesOf shop) P x (n + 1) (problemIn shop order (t .problem))) where
+        on : finds x ≡ Option·map (λ xs. x ∷ xs) (foundOf (n + 1) left r)
         on =
             tries .goes-on _ ∙ rw h refl
-            ∙ ap (λ (k : ℕ). Option·map {B = List Step} (λ xs. step (moveNumber m) p ∷ xs)
-            (prunedOf left (domain shop) (problem .atoms) w (step (moveNumber m) p) k (t .problem .atoms) (listOf shop order (t .problem .waiting)))) (sym (add-one n))
-            ∙ ap {B = Option (List Step)} (Option·map (λ xs. step (moveNumber m) p ∷ xs)) (sym e)
+            ∙ ap (λ (k : ℕ). Option·map {B = List Step} (λ xs. x ∷ xs) (prunedOf left (rulesOf shop) P x k (problemIn shop order (t .problem))))
+            (sym (add-one n))
+            ∙ ap {B = Option (List Step)} (Option·map (λ xs. x ∷ xs)) (sym e)
 
-        pub find-none : r .found ≡ false → finds (step (moveNumber m) p) ≡ none
+        pub find-none : r .found ≡ false → finds x ≡ none
         find-none q = on ∙ rw q refl
 
-        pub find-some : r .found ≡ true → finds (step (moveNumber m) p) ≡ some (step (moveNumber m) p ∷ stepsFrom (n + 1) left r)
+        pub find-some : r .found ≡ true → finds x ≡ some (x ∷ stepsFrom (n + 1) left r)
         find-some q = on ∙ rw q refl
+
+-- What was found with a step more before it.
+pub found-with : (n left move p : ℕ) (r w : Found) (m : Move) → 1 ≤ left → move ≡ moveNumber m
+    → (w .found ≡ r .found) × ((k : ℕ) → stepsFrom n (suc k) w ≡ step move p ∷ stepsFrom (n + 1) k r) → r .found ≡ true
+    → foundOf n left w ≡ some (step (moveNumber m) p ∷ stepsFrom (n + 1) (left - 1) r)
+found-with n left move p r w m h e f q =
+    let z : suc (left - 1) ≡ left = omega arith in
+    found-some n left w (f .0 ∙ q)
+    ∙ ap {B = Option (List Step)} some
+    (ap (λ (j : ℕ). stepsFrom n j w) (sym z) ∙ f .1 (left - 1)
+    ∙ ap {B = List Step} (λ (j : ℕ). step j p ∷ stepsFrom (n + 1) (left - 1) r) e)
+
+-- Whether the goal of a place is free, by its entry.
+pub free-here : (shop order : List ℕ) (w : Code.Waiting) (p : ℕ) {f v : Bool}
+    → f ≡ free (listOf shop order w) (waitingOf shop order (entryAt w p)) → f ≡ v → free (listOf shop order w) (goalAt (listOf shop order w) p) ≡ v
+free-here shop order w p e q = ap (free (listOf shop order w)) (goal-at shop order w p) ∙ told e q
+
+-- The place routine, with `left` steps to go.
+module _ (r : Rules) (P₀ : Problem) (y : Step) (left n : ℕ) (P : Problem) where
+  -- Nothing is found at a goal that is not free.
+  pub held-none : (p : ℕ) → free (P .waiting) (goalAt (P .waiting) p) ≡ false → movesFrom (tried left r P₀ y n P) (r .domain) p 0 ≡ none
+  held-none p e = not-free-none r left P₀ y n P (λ x. prunedOf left r P x (suc n)) p 0 e
+
+  -- The search of so many steps is the loop over all places.
+  pub all-places : 1 ≤ left → prunedOf left r P₀ y n P ≡ placesFrom (tried (left - 1) r P₀ y n P) (r .domain) (P .waiting) 0
+  all-places h =
+      let z : suc (left - 1) ≡ left = omega arith in
+      ap {B = Option (List Step)} (λ (j : ℕ). prunedOf j r P₀ y n P) (sym z) ∙ pruned-places (left - 1) r P₀ y n P

@@ -8,8 +8,7 @@ use mathlib.Core.List.{List, [], _∷_, _++_, map, zipWith}
 use lib.ListN.{length, take, drop, getD, set, length-append}
 use lib.Seq.{paste, paste-suc, take-paste, drop-paste, drop-drop, length-take-le}
 use Rattle.hgn.specs.Run.{Step}
-use Rattle.hgn.specs.Trace.{step}
-use Rattle.hgn.specs.Search.{traceWords}
+use Rattle.hgn.specs.Trace.{step, traceWords}
 use Rattle.search.specs.Founds.{stepsFrom, traceOf}
 use Rattle.search.specs.declared.found.Found.{Found}
 use Rattle.search.specs.declared.call.Shortest.{Shortest}

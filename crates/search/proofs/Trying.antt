@@ -7,50 +7,54 @@ use mathlib.Core.List.{List, _∷_}
 use mathlib.Core.Option.{Option, none, Option·map}
 use mathlib.Core.Logic.{_⊎_, inl, inr}
 use lib.ListN.{length}
-use borrow.Author.Tests.{ltb-true, lt-ltb, eq-eqb, ne-eqb}
+use borrow.Author.Tests.{ltb-true, lt-ltb}
+use Rattle.hgn.specs.Questions.{Refusal}
 use Rattle.hgn.specs.Meaning.{Domain, networkOf}
 use Rattle.hgn.specs.State.{State}
-use Rattle.hgn.specs.Network.{Waiting, goalAt, mostWaiting}
-use Rattle.hgn.specs.Run.{Step, Move, moveOf, methodAt, Stepped, refused, taken, stepped}
-use Rattle.hgn.proofs.Steps.{Moved, by-release, by-action, by-method, took}
+use Rattle.hgn.specs.Network as Network
+use Rattle.hgn.specs.Network.{Waiting, free, goalAt}
+use Rattle.hgn.specs.Run.{Step, Move, moveOf, methodAt, Problem, Rules, Deed, deedOf, Stepped, refused, taken, stepped}
+use Rattle.hgn.specs.Shop.{domain, actionCount, methodCount}
+use Rattle.hgn.specs.Trace.{step}
+use Rattle.hgn.specs.Replay.{rulesOf}
 use Rattle.hgn.proofs.Tests.{false-not-true}
+use Rattle.hgn.proofs.Steps.{Moved, by-release, by-action, by-method, took}
 use Rattle.hgn.proofs.Waits.{one-released, none-lost}
+use Rattle.reading.specs.Refusals.{refusalOf}
+use Rattle.reading.proofs.Laws.{told}
+use Rattle.network.specs.Tables.{Indexed}
+use Rattle.network.proofs.Goals.{list-length}
+use Rattle.steps.specs.Moves.{Known, knownOf}
+use Rattle.steps.specs.Steps.{problemIn, Asked}
+use Rattle.steps.specs.declared.moves.Move as Moves
+use Rattle.steps.specs.declared.problem.Problem as Record
+use Rattle.steps.specs.declared.problem.Stepped as Code
+use Rattle.steps.proofs.Bodies.{own-refuses, own-takes}
+use Rattle.steps.proofs.Decided.{own-told}
 use Rattle.pruning.specs.Rules.{ready, idle, lowerToo, tooFewLeft, couldGoFirst, leftOut}
 use Rattle.pruning.specs.Pruned.{behind}
-use Rattle.hgn.specs.Network.{free}
-use Rattle.hgn.specs.Trace.{step}
-use Rattle.hgn.specs.Shop.{domain, actionCount, methodCount}
-use Rattle.reading.proofs.Laws.{told}
-use Rattle.network.specs.Entries.{listOf}
-use Rattle.steps.specs.Moves.{Known, knownOf}
-use Rattle.steps.specs.Steps as Spec
-use Rattle.network.specs.Tables.{Indexed}
-use Rattle.steps.specs.Steps.{ifFree, steppedOf, doneOf}
-use Rattle.steps.specs.declared.moves.Move as Moves
-use Rattle.steps.specs.declared.problem.Problem.{Problem}
-use Rattle.steps.specs.declared.problem.Stepped as Code
-use Rattle.network.proofs.Goals.{list-length}
-use Rattle.steps.proofs.Bodies.{step-body}
 use Rattle.reasons.specs.Tests.{moveNumber, wanted, crowded}
+use Rattle.reasons.proofs.Reading.{number-read}
 use Rattle.search.specs.Trials.{opens, Tries}
 use Rattle.search.specs.declared.trial.Tried.{Tried}
-use Rattle.reasons.proofs.Reading.{number-read}
 
 -- What the tests say of a move that was taken: it was asked nothing that fails, and if it was crowded too few steps are left.
-module _ {limit : ℕ} {d : Domain} {n : ℕ} {s : State} {w : List Waiting} {p : ℕ} where
-  asks-hold : {m : Move} {done : List ℕ} {s′ : State} {w′ : List Waiting} → Moved limit d n s w p m done s′ w′
-      → (ready d s (goalAt w p) m && (wanted d (goalAt w p) m && not (idle d s m))) ≡ not (idle d s m)
+module _ {r : Rules} {n : ℕ} {P : Problem} {p : ℕ} where
+  asks-hold : {m : Move} {deed : Deed} {P′ : Problem} → Moved r n P p m deed P′
+      → (ready (r .domain) (P .state) (goalAt (P .waiting) p) m && (wanted r (goalAt (P .waiting) p) m && not (idle (r .domain) (P .state) m)))
+      ≡ not (idle (r .domain) (P .state) m)
   unfolding ready wanted idle
   asks-hold (by-release a) = rw a refl
   asks-hold (by-action a b) = rw (a, b) refl
   asks-hold (by-method a b c) = rw a refl
 
-  crowded-after : (left : ℕ) {m : Move} {done : List ℕ} {s′ : State} {w′ : List Waiting} → p < length w → Moved limit d n s w p m done s′ w′
-      → crowded left (length w) m ≡ true → left < length w′
+  crowded-after : (left : ℕ) {m : Move} {deed : Deed} {P′ : Problem} → p < length (P .waiting) → Moved r n P p m deed P′
+      → crowded left (length (P .waiting)) m ≡ true → left < length (P′ .waiting)
   unfolding crowded
-  crowded-after left h (by-release a) e = omega (arith, ltb-true (left + 1) (length w) e, one-released w p h)
-  crowded-after left h (by-action a b) e = ltb-true left (length w) e
-  crowded-after left h (by-method {m} a b c) e = omega (arith, ltb-true left (length w) e, none-lost w p n (networkOf (methodAt d m)) h)
+  crowded-after left h (by-release a) e = omega (arith, ltb-true (left + 1) (length (P .waiting)) e, one-released (P .waiting) p h)
+  crowded-after left h (by-action a b) e = ltb-true left (length (P .waiting)) e
+  crowded-after left h (by-method {m} a b c) e =
+      omega (arith, ltb-true left (length (P .waiting)) e, none-lost (P .waiting) p (Network.step n) (networkOf (methodAt (r .domain) m)) h)
 
 not-false : (b : Bool) → not b ≡ false → b ≡ true
 not-false true e = refl
@@ -70,157 +74,178 @@ open-not-idle false false b i e = absurd (false-not-true _ refl e)
 open-not-idle true a b i e = absurd (false-not-true _ refl e)
 
 -- The code's four questions of a move.
-module _ (d : Domain) (s : State) (g : Waiting) (left count : ℕ) (m : Move) {c : Bool} (e : c ≡ crowded left count m) where
-  pub open-crowded : c ≡ true → false ≡ opens d s g left count m
+module _ (r : Rules) (s : State) (g : Waiting) (left count : ℕ) (m : Move) {c : Bool} (e : c ≡ crowded left count m) where
+  pub open-crowded : c ≡ true → false ≡ opens r s g left count m
   open-crowded h = rw (told e h) refl
 
-  module _ (h : c ≡ false) {r : Bool} (f : r ≡ ready d s g m) where
-    pub open-unready : r ≡ false → false ≡ opens d s g left count m
+  module _ (h : c ≡ false) {b : Bool} (f : b ≡ ready (r .domain) s g m) where
+    pub open-unready : b ≡ false → false ≡ opens r s g left count m
     open-unready k = rw (told e h, told f k) refl
 
-    module _ (k : r ≡ true) {a : Bool} (j : a ≡ wanted d g m) where
-      pub open-unwanted : a ≡ false → false ≡ opens d s g left count m
+    module _ (k : b ≡ true) {a : Bool} (j : a ≡ wanted r g m) where
+      pub open-unwanted : a ≡ false → false ≡ opens r s g left count m
       open-unwanted l = rw (told e h, told f k, told j l) refl
 
-      pub open-idle : a ≡ true → {i : Bool} → i ≡ idle d s m → i ≡ true → false ≡ opens d s g left count m
+      pub open-idle : a ≡ true → {i : Bool} → i ≡ idle (r .domain) s m → i ≡ true → false ≡ opens r s g left count m
       open-idle l q t = rw (told e h, told f k, told j l, told q t) refl
 
-      pub open-all : a ≡ true → {i : Bool} → i ≡ idle d s m → i ≡ false → true ≡ opens d s g left count m
+      pub open-all : a ≡ true → {i : Bool} → i ≡ idle (r .domain) s m → i ≡ false → true ≡ opens r s g left count m
       open-all l q t = rw (told e h, told f k, told j l, told q t) refl
 
-module _ (left : ℕ) (d : Domain) (s₀ : State) (w₀ : List Waiting) (y : Step) (n : ℕ) (s : State) (w : List Waiting) (x : Step)
-    (next : State → List Waiting → Option (List Step)) where
-  abbrev found : Stepped → Option (List Step)
-  found r = behind left d s₀ w₀ y s w next x r
+-- A step `x` from `P`, with so many steps left after it. The step before it was `y`, from `P₀`.
+module _ (r : Rules) (left : ℕ) (P₀ : Problem) (y : Step) (n : ℕ) (P : Problem) (x : Step) where
+  abbrev m : Move
+  m = moveOf (r .domain) (x .move)
+
+  abbrev Out : Problem → Bool → Type 0
+  Out P′ b = leftOut r left P₀ y P x P′ ≡ b
 
   -- Each rule by itself leaves the step out.
-  pub idle-out : (s′ : State) (w′ : List Waiting) → idle d s (moveOf d (x .move)) ≡ true → leftOut left d s₀ w₀ y s w x s′ w′ ≡ true
+  idle-out : (P′ : Problem) → idle (r .domain) (P .state) m ≡ true → Out P′ true
   unfolding leftOut
-  idle-out s′ w′ e = rw e refl
+  idle-out P′ e = rw e refl
 
-  pub lower-out : (s′ : State) (w′ : List Waiting) → lowerToo d w (x .place) (moveOf d (x .move)) ≡ true → leftOut left d s₀ w₀ y s w x s′ w′ ≡ true
+  lower-out : (P′ : Problem) → lowerToo r (P .waiting) (x .place) m ≡ true → Out P′ true
   unfolding leftOut
-  lower-out s′ w′ e = rw (e, or-true (idle d s (moveOf d (x .move)))) refl
+  lower-out P′ e = rw (e, or-true (idle (r .domain) (P .state) m)) refl
 
-  pub few-out : (s′ : State) (w′ : List Waiting) → tooFewLeft left s′ w′ ≡ true → leftOut left d s₀ w₀ y s w x s′ w′ ≡ true
+  few-out : (P′ : Problem) → tooFewLeft left P′ ≡ true → Out P′ true
   unfolding leftOut
-  few-out s′ w′ e = rw (e, or-true (lowerToo d w (x .place) (moveOf d (x .move))), or-true (idle d s (moveOf d (x .move)))) refl
+  few-out P′ e = rw (e, or-true (lowerToo r (P .waiting) (x .place) m), or-true (idle (r .domain) (P .state) m)) refl
 
-  pub first-out : (s′ : State) (w′ : List Waiting) → couldGoFirst d s₀ w₀ y x ≡ true → leftOut left d s₀ w₀ y s w x s′ w′ ≡ true
+  first-out : (P′ : Problem) → couldGoFirst (r .domain) P₀ y x ≡ true → Out P′ true
   unfolding leftOut
-  first-out s′ w′ e =
-      rw (e, or-true (tooFewLeft left s′ w′), or-true (lowerToo d w (x .place) (moveOf d (x .move))), or-true (idle d s (moveOf d (x .move)))) refl
+  first-out P′ e =
+      rw (e, or-true (tooFewLeft left P′), or-true (lowerToo r (P .waiting) (x .place) m), or-true (idle (r .domain) (P .state) m)) refl
 
-  few-count : (s′ : State) (w′ : List Waiting) → left < length w′ → tooFewLeft left s′ w′ ≡ true
+  few-count : (P′ : Problem) → left < length (P′ .waiting) → tooFewLeft left P′ ≡ true
   unfolding tooFewLeft
-  few-count s′ w′ h = rw (lt-ltb left (length w′) h) refl
+  few-count P′ h = rw (lt-ltb left (length (P′ .waiting)) h) refl
 
-  pub none-out : (s′ : State) (w′ : List Waiting) → idle d s (moveOf d (x .move)) ≡ false → lowerToo d w (x .place) (moveOf d (x .move)) ≡ false
-      → tooFewLeft left s′ w′ ≡ false → couldGoFirst d s₀ w₀ y x ≡ false → leftOut left d s₀ w₀ y s w x s′ w′ ≡ false
+  none-out : (P′ : Problem) → idle (r .domain) (P .state) m ≡ false → lowerToo r (P .waiting) (x .place) m ≡ false
+      → tooFewLeft left P′ ≡ false → couldGoFirst (r .domain) P₀ y x ≡ false → Out P′ false
   unfolding leftOut
-  none-out s′ w′ a b c e = rw (a, b, c, e) refl
+  none-out P′ a b c e = rw (a, b, c, e) refl
 
-  -- Nothing is found where each way in which the step is taken is left out.
-  pub out : ((done : List ℕ) (s′ : State) (w′ : List Waiting) → stepped mostWaiting d n s w x ≡ taken done s′ w′ → leftOut left d s₀ w₀ y s w x s′ w′ ≡ true)
-      → found (stepped mostWaiting d n s w x) ≡ none
-  unfolding behind
-  out h = go (stepped mostWaiting d n s w x) refl
-    where
-      go : (r : Stepped) → stepped mostWaiting d n s w x ≡ r → found r ≡ none
-      go (refused number) e = refl
-      go (taken done s′ w′) e = rw (h done s′ w′ e) refl
+  -- What is found behind it.
+  module _ (next : Problem → Option (List Step)) where
+    abbrev found : Stepped → Option (List Step)
+    found o = behind r left P₀ y P next x o
 
-  pub refused-none : (number : ℕ) → stepped mostWaiting d n s w x ≡ refused number → found (stepped mostWaiting d n s w x) ≡ none
-  unfolding behind
-  refused-none number e = ap found e
-
-  -- A move that is not open.
-  pub closed-none : opens d s (goalAt w (x .place)) left (length w) (moveOf d (x .move)) ≡ false → found (stepped mostWaiting d n s w x) ≡ none
-  closed-none e =
-      out λ done s′ w′ t.
-      let took = took x done s′ w′ t in
-      go s′ w′ (crowded-after left (took .inside) (took .by)) (either _ _ _ e (asks-hold (took .by)))
-    where
-      go : (s′ : State) (w′ : List Waiting) → (crowded left (length w) (moveOf d (x .move)) ≡ true → left < length w′)
-          → (crowded left (length w) (moveOf d (x .move)) ≡ true) ⊎ (idle d s (moveOf d (x .move)) ≡ true) → leftOut left d s₀ w₀ y s w x s′ w′ ≡ true
-      go s′ w′ h (inl c) = few-out s′ w′ (few-count s′ w′ (h c))
-      go s′ w′ h (inr i) = idle-out s′ w′ i
-
-  -- A step that is taken.
-  module _ (done : List ℕ) (s′ : State) (w′ : List Waiting) (t : stepped mostWaiting d n s w x ≡ taken done s′ w′) where
-    pub left-out : leftOut left d s₀ w₀ y s w x s′ w′ ≡ true → found (stepped mostWaiting d n s w x) ≡ none
+    -- Nothing is found where each way in which the step is taken is left out.
+    out : ((deed : Deed) (P′ : Problem) → stepped r n P x ≡ taken deed P′ → Out P′ true) → found (stepped r n P x) ≡ none
     unfolding behind
-    left-out e = ap found t ∙ rw e refl
+    out h = go (stepped r n P x) refl
+      where
+        go : (o : Stepped) → stepped r n P x ≡ o → found o ≡ none
+        go (refused q) e = refl
+        go (taken deed P′) e = rw (h deed P′ e) refl
 
-    pub kept : leftOut left d s₀ w₀ y s w x s′ w′ ≡ false → found (stepped mostWaiting d n s w x) ≡ Option·map (λ xs. x ∷ xs) (next s′ w′)
+    refused-none : (q : Refusal) → stepped r n P x ≡ refused q → found (stepped r n P x) ≡ none
     unfolding behind
-    kept e = ap found t ∙ rw e refl
+    refused-none q e = ap found e
+
+    -- A move that is not open.
+    pub closed-none : opens r (P .state) (goalAt (P .waiting) (x .place)) left (length (P .waiting)) m ≡ false → found (stepped r n P x) ≡ none
+    closed-none e =
+        out λ deed P′ t.
+        let took = took x deed P′ t in
+        go P′ (crowded-after left (took .inside) (took .by)) (either _ _ _ e (asks-hold (took .by)))
+      where
+        go : (P′ : Problem) → (crowded left (length (P .waiting)) m ≡ true → left < length (P′ .waiting))
+            → (crowded left (length (P .waiting)) m ≡ true) ⊎ (idle (r .domain) (P .state) m ≡ true) → Out P′ true
+        go P′ h (inl c) = few-out P′ (few-count P′ (h c))
+        go P′ h (inr i) = idle-out P′ i
+
+    -- A step that is taken.
+    module _ (deed : Deed) (P′ : Problem) (t : stepped r n P x ≡ taken deed P′) where
+      left-out : Out P′ true → found (stepped r n P x) ≡ none
+      unfolding behind
+      left-out e = ap found t ∙ rw e refl
+
+      kept : Out P′ false → found (stepped r n P x) ≡ Option·map (λ xs. x ∷ xs) (next P′)
+      unfolding behind
+      kept e = ap found t ∙ rw e refl
+
+-- Where the code tries a step, of number `n`: at place `p` of the record `problem`, with `left` steps left after it. The step before it was
+-- `y`, from the record `b`.
+pub record Trial (shop order endTable startTable : List ℕ) (problem b : Record.Problem) (y : Step) (left n p : ℕ) : Type 0 where
+  pub ix : Indexed shop order endTable startTable
+  pub full : length (problem .waiting .entries) ≡ 64
+  pub few : problem .waiting .count ≤ 64
+  pub inside : p < problem .waiting .count
 
 -- One step of the code.
-module _ {shop order endTable startTable : List ℕ} (ix : Indexed shop order endTable startTable) (left : ℕ) (b : Problem) (y : Step) (problem : Problem)
-    (full : length (problem .waiting .entries) ≡ 64) (few : problem .waiting .count ≤ 64) (n : ℕ) (m : Moves.Move)
-    (known : Known (actionCount shop) (methodCount shop) m) (p : ℕ) (inside : p < problem .waiting .count) where
+module _ {shop order endTable startTable : List ℕ} {problem b : Record.Problem} {y : Step} {left n p : ℕ}
+    (g : Trial shop order endTable startTable problem b y left n p) (m : Moves.Move) (known : Known (actionCount shop) (methodCount shop) m) where
   abbrev d : Domain
   d = domain shop
 
-  abbrev w : List Waiting
-  w = listOf shop order (problem .waiting)
+  abbrev P₀ : Problem
+  P₀ = problemIn shop order b
 
-  abbrev w₀ : List Waiting
-  w₀ = listOf shop order (b .waiting)
+  abbrev P : Problem
+  P = problemIn shop order problem
 
   abbrev x : Step
   x = step (moveNumber m) p
 
+  -- What is promised of it, and that it was not kept.
+  abbrev Tried-as : Tried → Type 0
+  Tried-as q = Tries shop order left b y problem n x q
+
+  abbrev Not-kept : Tried → Type 0
+  Not-kept q = (q .kept ≡ false) × (q .problem ≡ problem)
+
   reads : moveOf d (moveNumber m) ≡ knownOf m
-  reads = number-read ix m known
+  reads = number-read (g .ix) m known
 
   -- Nothing is found behind it, and the record is as it was.
-  abbrev Nothing : Type 0
-  Nothing = (next : State → List Waiting → Option (List Step)) → behind left d (b .atoms) w₀ y (problem .atoms) w next x (stepped mostWaiting d n (problem .atoms) w x) ≡ none
-
-  tries-out : {r : Tried} → (r .kept ≡ false) × (r .problem ≡ problem) → Nothing → Tries shop order left b y problem n x r
-  tries-out {r} e h = record {
+  tries-out : {q : Tried} → Not-kept q → ((next : Problem → Option (List Step)) → behind (rulesOf shop) left P₀ y P next x (stepped (rulesOf shop) n P x) ≡ none)
+      → Tried-as q
+  tries-out {q} e h = record {
     goes-on = λ next. h next ∙ sym (rw (e .0) refl);
-    within = omega (arith, few, ap (λ (q : Problem). q .waiting .count) (e .1));
+    within = omega (arith, g .few, ap (λ (v : Record.Problem). v .waiting .count) (e .1));
   }
 
-  pub tries-first : {r : Tried} → (r .kept ≡ false) × (r .problem ≡ problem) → couldGoFirst d (b .atoms) w₀ y x ≡ true → Tries shop order left b y problem n x r
-  tries-first e h = tries-out e λ next. out left d (b .atoms) w₀ y n (problem .atoms) w x next λ done s′ w′ t. first-out left d (b .atoms) w₀ y n (problem .atoms) w x next s′ w′ h
+  pub tries-first : {q : Tried} → Not-kept q → couldGoFirst d P₀ y x ≡ true → Tried-as q
+  tries-first e h = tries-out e λ next. out (rulesOf shop) left P₀ y n P x next λ deed P′ t. first-out (rulesOf shop) left P₀ y n P x P′ h
 
-  pub tries-lower : {r : Tried} → (r .kept ≡ false) × (r .problem ≡ problem) → lowerToo d w p (knownOf m) ≡ true → Tries shop order left b y problem n x r
+  pub tries-lower : {q : Tried} → Not-kept q → lowerToo (rulesOf shop) (P .waiting) p (knownOf m) ≡ true → Tried-as q
   tries-lower e h =
-      tries-out e λ next. out left d (b .atoms) w₀ y n (problem .atoms) w x next λ done s′ w′ t.
-      lower-out left d (b .atoms) w₀ y n (problem .atoms) w x next s′ w′ (ap (lowerToo d w p) reads ∙ h)
+      tries-out e λ next. out (rulesOf shop) left P₀ y n P x next λ deed P′ t.
+      lower-out (rulesOf shop) left P₀ y n P x P′ (ap (lowerToo (rulesOf shop) (P .waiting) p) reads ∙ h)
 
   -- The step is taken, or refused, as the code's is.
-  module _ (is-free : free w (goalAt w p) ≡ true) {r : Code.Stepped} (t : Spec.Stepped (ifFree d n (problem .atoms) w p (knownOf m)) shop order problem r) where
-    step-is : stepped mostWaiting d n (problem .atoms) w x ≡ steppedOf shop order r
-    step-is =
-        step-body d n (problem .atoms) w (moveNumber m) p (rw (list-length shop order (problem .waiting) full few) inside) m reads is-free
-        ∙ sym (t .comes-to)
+  module _ (is-free : free (P .waiting) (goalAt (P .waiting) p) ≡ true) {r : Code.Stepped} (t : Asked shop order n p (knownOf m) problem r) where
+    below : p < length (P .waiting)
+    below = rw (list-length shop order (problem .waiting) (g .full) (g .few)) (g .inside)
 
-    pub tries-refused : {q : Tried} → (q .kept ≡ false) × (q .problem ≡ problem) → (r .number ≡ 0 → ⊥) → Tries shop order left b y problem n x q
+    pub tries-refused : {q : Tried} → Not-kept q → (r .refusal .number ≡ 0 → ⊥) → Tried-as q
     tries-refused e h =
-        tries-out e λ next. refused-none left d (b .atoms) w₀ y n (problem .atoms) w x next (r .number) (step-is ∙ rw (ne-eqb (r .number) 0 h) refl)
+        let own = own-told shop n p P m (refusalOf (r .refusal)) (t .refusal) .1 h .0 in
+        tries-out e λ next. refused-none (rulesOf shop) left P₀ y n P x next _
+        (own-refuses (rulesOf shop) n P (moveNumber m) p below m reads is-free (refusalOf (r .refusal)) own)
 
-    module _ (z : r .number ≡ 0) where
-      taken-is : stepped mostWaiting d n (problem .atoms) w x ≡ taken (doneOf (r .action)) (r .problem .atoms) (listOf shop order (r .problem .waiting))
-      taken-is = step-is ∙ rw (eq-eqb (r .number) 0 z) refl
+    module _ (z : r .refusal .number ≡ 0) where
+      abbrev P′ : Problem
+      P′ = problemIn shop order (r .problem)
 
-      pub tries-few : {q : Tried} → (q .kept ≡ false) × (q .problem ≡ problem)
-          → tooFewLeft left (r .problem .atoms) (listOf shop order (r .problem .waiting)) ≡ true → Tries shop order left b y problem n x q
+      taken-is : stepped (rulesOf shop) n P x ≡ taken (deedOf P p (knownOf m)) P′
+      taken-is =
+          own-takes (rulesOf shop) n P (moveNumber m) p below m reads is-free (own-told shop n p P m (refusalOf (r .refusal)) (t .refusal) .0 z)
+          ∙ ap (taken (deedOf P p (knownOf m))) (sym (t .leaves z))
+
+      pub tries-few : {q : Tried} → Not-kept q → tooFewLeft left P′ ≡ true → Tried-as q
       tries-few e h =
-          tries-out e λ next. left-out left d (b .atoms) w₀ y n (problem .atoms) w x next _ _ _ taken-is
-          (few-out left d (b .atoms) w₀ y n (problem .atoms) w x next _ _ h)
+          tries-out e λ next. left-out (rulesOf shop) left P₀ y n P x next _ P′ taken-is (few-out (rulesOf shop) left P₀ y n P x P′ h)
 
-      pub tries-kept : {q : Tried} → q .kept ≡ true → q .problem ≡ r .problem → idle d (problem .atoms) (knownOf m) ≡ false
-          → lowerToo d w p (knownOf m) ≡ false → tooFewLeft left (r .problem .atoms) (listOf shop order (r .problem .waiting)) ≡ false
-          → couldGoFirst d (b .atoms) w₀ y x ≡ false → Tries shop order left b y problem n x q
+      pub tries-kept : {q : Tried} → q .kept ≡ true → q .problem ≡ r .problem → idle d (P .state) (knownOf m) ≡ false
+          → lowerToo (rulesOf shop) (P .waiting) p (knownOf m) ≡ false → tooFewLeft left P′ ≡ false → couldGoFirst d P₀ y x ≡ false → Tried-as q
       tries-kept {q} k e i l f c = record {
         goes-on = λ next.
-            kept left d (b .atoms) w₀ y n (problem .atoms) w x next _ _ _ taken-is
-            (none-out left d (b .atoms) w₀ y n (problem .atoms) w x next _ _ (ap (idle d (problem .atoms)) reads ∙ i) (ap (lowerToo d w p) reads ∙ l) f c)
+            kept (rulesOf shop) left P₀ y n P x next _ P′ taken-is
+            (none-out (rulesOf shop) left P₀ y n P x P′ (ap (idle d (P .state)) reads ∙ i) (ap (lowerToo (rulesOf shop) (P .waiting) p) reads ∙ l) f c)
             ∙ sym (rw (k, e) refl);
-        within = omega (arith, t .within, ap (λ (g : Problem). g .waiting .count) e);
+        within = omega (arith, t .within, ap (λ (v : Record.Problem). v .waiting .count) e);
       }

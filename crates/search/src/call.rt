@@ -3,11 +3,11 @@ use crate::explore;
 use crate::found::Found;
 use needed::least;
 use network::waiting::Place;
+use reading::refusal::Refusal;
 use replay::first;
 use scan::rows::Layout;
 use sheets::check;
 use sheets::check::Shop;
-use sheets::check::Verdict;
 use steps::moves::Move;
 use steps::problem::Problem;
 ghost use mathlib.Core.Path.{_≡_};
@@ -15,14 +15,16 @@ ghost use Prim.Native.Nat.{suc, _≤_, _+_};
 ghost use lib.ListN.{length};
 ghost use lib.Seq.{paste};
 ghost use Rattle.hgn.specs.Rows.{mostRows};
-ghost use Rattle.hgn.specs.Shop.{mostActions, mostMethods, domain};
+ghost use Rattle.hgn.specs.Shop.{mostActions, mostMethods};
 ghost use Rattle.hgn.specs.Questions.{passed};
 ghost use Rattle.hgn.specs.Order.{checkOrder};
+ghost use Rattle.hgn.specs.Replay.{rulesOf};
+ghost use Rattle.hgn.specs.Search as Search;
 ghost use Rattle.hgn.specs.Search.{searched};
-ghost use Rattle.network.specs.Entries.{listOf};
 ghost use Rattle.network.specs.Tables.{Indexed};
+ghost use Rattle.steps.specs.Steps.{problemIn};
 ghost use Rattle.pruning.specs.Pruned.{prunedShortest};
-ghost use Rattle.search.specs.Founds.{shortestOf, traceOf, Called};
+ghost use Rattle.search.specs.Founds.{searchedOf, shortestOf, traceOf};
 
 // The first of the shortest traces and its length; or no trace, and then the depth.
 pub struct Shortest {
@@ -40,7 +42,7 @@ fn deepen<'a>(
     depth: u16,
 ) -> Shortest
     requires { ⌜ Indexed (now shop) (now order) (now ends) (now starts) × (first .waiting .count ≤ 64) × (depth ≤ 32) ⌝ }
-    ensures { λ r. ⌜ (shortestOf r ≡ prunedShortest depth (domain (now (shop .entry))) (first .atoms) (listOf (now (shop .entry)) (now (order .entry)) (first .waiting))) × (r .length ≤ depth) ⌝ }
+    ensures { λ r. ⌜ (shortestOf r ≡ prunedShortest depth (rulesOf (now (shop .entry))) (problemIn (now (shop .entry)) (now (order .entry)) first)) × (r .length ≤ depth) ⌝ }
 {
     let mut left = least::at_least(shop, order, ends, starts, first);
     while left <= depth {
@@ -124,36 +126,24 @@ fn write_trace(room: &mut [u16], found: Shortest)
 }
 
 // Questions 1 to 9 and 11 to 18, then 41 to 43. Found, the trace stands in the first 1 + 2L words of the room.
-pub fn search<'a>(shop: &'a [u16], order: &'a [u16], depth: u32, room: &mut [u16]) -> Verdict
-    ensures { λ r. ⌜ Called (now (shop .entry)) (now (order .entry)) depth (now (room .entry)) r (now (room .exit)) ⌝ }
+pub fn search<'a>(shop: &'a [u16], order: &'a [u16], depth: u32, room: &mut [u16]) -> Refusal
+    ensures { λ r. ⌜ searchedOf r (now (room .exit)) ≡ Search.search (now (shop .entry)) (now (order .entry)) depth (now (room .entry)) ⌝ }
 {
-    let verdict = check::check_order(shop, order);
-    if verdict.number != 0 {
-        return verdict;
+    let refusal = check::check_order(shop, order);
+    if refusal.number != 0 {
+        return refusal;
     }
     if Found::MOST < depth {
-        return Verdict {
-            number: 41,
-            place: 0,
-        };
+        return Refusal::by(41);
     }
     if room.len() < 1 + 2 * depth as usize {
-        return Verdict {
-            number: 42,
-            place: 0,
-        };
+        return Refusal::by(42);
     }
     let found = search_checked(shop, order, depth as u16);
     let steps = found.steps;
     if steps.found {
         write_trace(room, found);
-        return Verdict {
-            number: 0,
-            place: found.length,
-        };
+        return Refusal::none().at(found.length);
     }
-    Verdict {
-        number: 43,
-        place: 0,
-    }
+    Refusal::by(43)
 }

@@ -14,10 +14,12 @@ ghost use mathlib.Core.Bool.{true};
 ghost use Prim.Native.Nat.{_≤_, _<_, _+_, _-_};
 ghost use Rattle.hgn.specs.Network.{free as freeIn, goalAt};
 ghost use Rattle.hgn.specs.Shop.{domain, actionCount, methodCount};
+ghost use Rattle.hgn.specs.Replay.{rulesOf};
 ghost use Rattle.hgn.specs.Trace.{step};
 ghost use Rattle.network.specs.Entries.{listOf, entryAt};
 ghost use Rattle.network.specs.Tables.{Indexed};
 ghost use Rattle.steps.specs.Moves.{Known};
+ghost use Rattle.steps.specs.Steps.{problemIn};
 ghost use Rattle.pruning.specs.Pruned.{prunedOf, movesFrom};
 ghost use Rattle.search.specs.Founds.{foundOf};
 ghost use Rattle.reasons.specs.Tests.{moveNumber};
@@ -39,7 +41,8 @@ pub fn places<'a>(
     requires { ⌜ Indexed (now shop) (now order) (now ends) (now starts) ⌝ }
     requires { ⌜ (problem .waiting .count ≤ 64) × (before .waiting .count ≤ 64) × (number + left ≤ 32) ⌝ }
     requires { ⌜ Known (actionCount (now shop)) (methodCount (now shop)) last ⌝ }
-    ensures { λ r. ⌜ foundOf number left r ≡ prunedOf left (domain (now (shop .entry))) (before .atoms) (listOf (now (shop .entry)) (now (order .entry)) (before .waiting)) (step (moveNumber last) («last_place» .0)) number (problem .atoms) (listOf (now (shop .entry)) (now (order .entry)) (problem .waiting)) ⌝ }
+    ensures { λ r. ⌜ foundOf number left r ≡ prunedOf left (rulesOf (now (shop .entry))) (problemIn (now (shop .entry)) (now (order .entry)) before)
+        (step (moveNumber last) («last_place» .0)) number (problemIn (now (shop .entry)) (now (order .entry)) problem) ⌝ }
 {
     let waiting = problem.waiting;
     let count = waiting.count;
@@ -94,7 +97,10 @@ pub fn moves<'a>(
     requires { ⌜ Known (actionCount (now shop)) (methodCount (now shop)) last ⌝ }
     requires { ⌜ (place .0 < problem .waiting .count) × (goal ≡ entryAt (problem .waiting) (place .0)) ⌝ }
     requires { ⌜ freeIn (listOf (now shop) (now order) (problem .waiting)) (goalAt (listOf (now shop) (now order) (problem .waiting)) (place .0)) ≡ true ⌝ }
-    ensures { λ r. ⌜ foundOf number left r ≡ movesFrom (tried (left - 1) (domain (now (shop .entry))) (before .atoms) (listOf (now (shop .entry)) (now (order .entry)) (before .waiting)) (step (moveNumber last) («last_place» .0)) number (problem .atoms) (listOf (now (shop .entry)) (now (order .entry)) (problem .waiting))) (domain (now (shop .entry))) (place .0) 0 ⌝ }
+    ensures { λ r. ⌜ foundOf number left r ≡ movesFrom
+        (tried (left - 1) (rulesOf (now (shop .entry))) (problemIn (now (shop .entry)) (now (order .entry)) before)
+        (step (moveNumber last) («last_place» .0)) number (problemIn (now (shop .entry)) (now (order .entry)) problem))
+        (domain (now (shop .entry))) (place .0) 0 ⌝ }
 {
     let actions = word(shop, 1);
     let all = actions + word(shop, 2);

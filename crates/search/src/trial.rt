@@ -10,6 +10,7 @@ ghost use mathlib.Core.Bool.{true, false};
 ghost use Prim.Native.Nat.{_≤_, _<_};
 ghost use Rattle.hgn.specs.Network.{free, goalAt};
 ghost use Rattle.hgn.specs.Shop.{domain, actionCount, methodCount};
+ghost use Rattle.hgn.specs.Replay.{rulesOf};
 ghost use Rattle.hgn.specs.Trace.{step};
 ghost use Rattle.network.specs.Entries.{listOf, waitingOf};
 ghost use Rattle.network.specs.Tables.{Indexed};
@@ -50,7 +51,7 @@ pub fn open_at<'a>(
     mv: Move,
 ) -> bool
     requires { ⌜ Indexed (now shop) (now order) (now ends) (now starts) × Known (actionCount (now shop)) (methodCount (now shop)) mv × (left ≤ 32) ⌝ }
-    ensures { λ r. ⌜ r ≡ opens (domain (now (shop .entry))) (now (atoms .entry)) (waitingOf (now (shop .entry)) (now (order .entry)) goal) left count (knownOf mv) ⌝ }
+    ensures { λ r. ⌜ r ≡ opens (rulesOf (now (shop .entry))) (now (atoms .entry)) (waitingOf (now (shop .entry)) (now (order .entry)) goal) left count (knownOf mv) ⌝ }
 {
     if rules::crowded(left, count, mv) {
         return false;
@@ -86,7 +87,8 @@ pub fn try_step<'a>(
     requires { ⌜ Known (actionCount (now shop)) (methodCount (now shop)) last × Known (actionCount (now shop)) (methodCount (now shop)) mv ⌝ }
     requires { ⌜ free (listOf (now shop) (now order) (problem .waiting)) (goalAt (listOf (now shop) (now order) (problem .waiting)) (place .0)) ≡ true ⌝ }
     requires { ⌜ idle (domain (now shop)) (problem .atoms) (knownOf mv) ≡ false ⌝ }
-    ensures { λ r. ⌜ Tries (now (shop .entry)) (now (order .entry)) left before (step (moveNumber last) («last_place» .0)) problem number (step (moveNumber mv) (place .0)) r ⌝ }
+    ensures { λ r. ⌜ Tries (now (shop .entry)) (now (order .entry)) left before (step (moveNumber last) («last_place» .0)) problem number
+        (step (moveNumber mv) (place .0)) r ⌝ }
 {
     // Asked first, so that the record is not copied where no step can go first.
     if rules::goes_first(last, last_place, mv, place) {
@@ -109,7 +111,7 @@ pub fn try_step<'a>(
         return Tried::out(problem);
     }
     let stepped = step::take_move(shop, order, ends, starts, problem, number, mv, place);
-    if stepped.number != 0 {
+    if stepped.refusal.number != 0 {
         return Tried::out(problem);
     }
     let next = stepped.problem;

@@ -13,13 +13,16 @@ open-at-spec =
     (λ c κs. let s = c .before .before .before .before .before .before .before .before in (s .pre .0, s .pre .1))
     (λ c κs. let s = c .before .before .before .before .before .before .before .before .before .before in (s .pre .0, s .pre .1))
     (λ c.
-    open-idle _ _ _ _ _ _ (c .before .before .before .before .before .before .before .crowded .ensures) (c .before .before .before .before .before .before .if1 .left) (c .before .before .before .before .before .ready .ensures) (c .before .before .before .before .if2 .taken)
+    let f = c .before .before .before .before in
+    open-idle _ _ _ _ _ _ (f .before .before .before .crowded .ensures) (f .before .before .if1 .left) (f .before .ready .ensures) (f .if2 .taken)
     (c .before .before .before .wanted .ensures) (c .before .before .if3 .taken) (c .before .idle .ensures) (c .if4 .taken))
     (λ c.
-    open-all _ _ _ _ _ _ (c .before .before .before .before .before .before .before .crowded .ensures) (c .before .before .before .before .before .before .if1 .left) (c .before .before .before .before .before .ready .ensures) (c .before .before .before .before .if2 .taken)
+    let f = c .before .before .before .before in
+    open-all _ _ _ _ _ _ (f .before .before .before .crowded .ensures) (f .before .before .if1 .left) (f .before .ready .ensures) (f .if2 .taken)
     (c .before .before .before .wanted .ensures) (c .before .before .if3 .taken) (c .before .idle .ensures) (c .if4 .left))
     (λ c.
-    open-unwanted _ _ _ _ _ _ (c .before .before .before .before .before .crowded .ensures) (c .before .before .before .before .if1 .left) (c .before .before .before .ready .ensures) (c .before .before .if2 .taken)
+    let f = c .before .before in
+    open-unwanted _ _ _ _ _ _ (f .before .before .before .crowded .ensures) (f .before .before .if1 .left) (f .before .ready .ensures) (f .if2 .taken)
     (c .before .wanted .ensures) (c .if3 .left))
     (λ c.
     open-unready _ _ _ _ _ _ (c .before .before .before .crowded .ensures) (c .before .before .if1 .left) (c .before .ready .ensures) (c .if2 .left)))
