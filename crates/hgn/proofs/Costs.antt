@@ -1,13 +1,14 @@
 -- The cost of a plan: of two plans one after the other, and at most 4,096 × 65,535. Assumes nothing.
 use Prim.Native.Nat.{ℕ, zero, suc, _+_, _-_, _*_, _≤_}
 use native.Mathlib.Omega.{arith}
-use mathlib.Core.Path.{_≡_, refl}
+use mathlib.Core.Path.{_≡_, refl, ap, _∙_}
 use mathlib.Core.List.{List, [], _∷_, _++_, List·Memᴰ, List·Memᴰ·head, List·Memᴰ·tail}
 use lib.ListN.{length, getD}
 use Rattle.hgn.specs.Meaning.{Action, Domain}
 use Rattle.hgn.specs.Run.{noAction, costOf}
 use Rattle.hgn.specs.Shop.{domain}
-use Rattle.hgn.specs.Readings.{CostsAreBounded}
+use Rattle.hgn.specs.Readings.{CostsAreSums}
+use Rattle.hgn.proofs.Tests.{at-getD}
 use Rattle.hgn.proofs.Checked.{action-cost}
 use Rattle.hgn.proofs.Derivations.{plan-short}
 
@@ -27,9 +28,15 @@ unfolding costOf
 plan-cost d h [] = omega arith
 plan-cost d h (k ∷ plan) = omega (arith, cost-at (d .actions) h (k - 1), plan-cost d h plan)
 
-pub costs-are-bounded : CostsAreBounded
-costs-are-bounded = record {
+one-less : (k : ℕ) → suc k - 1 ≡ k
+one-less k = omega arith
+
+pub costs-are-sums : CostsAreSums
+unfolding costOf
+costs-are-sums = record {
   bounded = λ shop e plan l. omega (arith, plan-cost (domain shop) (action-cost shop e) plan);
   product = refl;
+  of-none = λ d. refl;
+  of-action = λ d k a plan h. ap (λ (x : Action). x .cost + costOf d plan) (ap (λ (j : ℕ). getD (d .actions) j noAction) (one-less k) ∙ at-getD noAction h);
   short = λ r n P xs plan last. plan-short;
 }

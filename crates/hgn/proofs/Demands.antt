@@ -11,9 +11,10 @@ use Rattle.hgn.proofs.Derivations.{accepted-is-derivation}
 use Rattle.hgn.proofs.InOrder.{questions-in-order}
 use Rattle.hgn.proofs.Joins.{first-before-second}
 use Rattle.hgn.proofs.Orders.{networks-are-000s}
+use Rattle.hgn.proofs.Places.{places-are-01s}
 use Rattle.hgn.proofs.Checked.{methods-end-in-goals}
 use Rattle.hgn.proofs.Effects.{effects-are-gamma, states-are-sets}
-use Rattle.hgn.proofs.Costs.{costs-are-bounded}
+use Rattle.hgn.proofs.Costs.{costs-are-sums}
 
 pub promised : Promised
 promised = record {
@@ -32,8 +33,9 @@ read = record {
   questions-in-order = questions-in-order;
   first-before-second = first-before-second;
   networks-are-000s = networks-are-000s;
+  places-are-01s = places-are-01s;
   methods-end-in-goals = methods-end-in-goals;
   effects-are-gamma = effects-are-gamma;
   states-are-sets = states-are-sets;
-  costs-are-bounded = costs-are-bounded;
+  costs-are-sums = costs-are-sums;
 }

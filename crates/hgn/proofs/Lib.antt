@@ -14,6 +14,7 @@ pub mod Costs
 pub mod Numbers
 pub mod Moves
 pub mod Waiting
+pub mod Places
 pub mod Steps
 pub mod Runs
 pub mod Derivations

@@ -25,3 +25,4 @@ pub mod Readings
 pub mod Demands
 -- "One core of sixty centimetres": the marked cases.
 pub mod Cases
+pub mod QuestionCases

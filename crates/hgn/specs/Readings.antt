@@ -2,20 +2,20 @@
 -- operations on networks, methods, effects, states, costs; with `Written`, which sheets pass. Where a statement follows a sentence of
 -- document 01 or of source document 000, that is quoted above it.
 -- Values stand in `proofs/`, gathered in `proofs/Demands.antt`.
-use Prim.Native.Nat.{ℕ, _+_, _-_, _*_, _≤_, _<_}
+use Prim.Native.Nat.{ℕ, suc, _+_, _-_, _*_, _≤_, _<_}
 use mathlib.Core.Path.{_≡_}
 use mathlib.Core.Bool.{true, false}
 use mathlib.Core.Logic.{_↔_, _⊎_, _≢_}
 use mathlib.Core.List.{List, [], _∷_, _++_, List·Memᴰ}
 use lib.ListN.{length, getD}
-use mathlib.Core.Option.{some}
+use mathlib.Core.Option.{Option, some}
 use Rattle.hgn.specs.Lists.{At, below}
 use Rattle.hgn.specs.Questions.{Refusal, passed}
 use Rattle.hgn.specs.Questions as Questions
 use Rattle.hgn.specs.Tag.{mostCost}
-use Rattle.hgn.specs.Meaning.{Literal, Node, Method, Domain, Order, lastOf, goalOf, networkOf}
+use Rattle.hgn.specs.Meaning.{Literal, Node, Action, Method, Domain, Order, lastOf, goalOf, networkOf}
 use Rattle.hgn.specs.State.{State, mostAtoms, allHold, formulaHolds, γ}
-use Rattle.hgn.specs.Network.{Waiting, step, free, anyFree, enter, goalsOf, goalAt, released, decomposed}
+use Rattle.hgn.specs.Network.{Origin, Name, Waiting, step, free, anyFree, enter, goalsOf, goalAt, released, decomposed}
 use Rattle.hgn.specs.Run.{Step, release, act, use-method, unknown, moveOf, known, actionAt, methodAt, Problem, startOf, problemFrom}
 use Rattle.hgn.specs.Run.{Rules, Decided, strict, moved, Deed, Stepped, refused, taken, stepped, costOf}
 use Rattle.hgn.specs.Join.{Accepted, join}
@@ -158,6 +158,19 @@ NetworksAre000s = (shop : List ℕ) (o : Order) → FromSheets shop o
     → (r : Rules) → r .domain ≡ domain shop → (s : State) (xs : List Step) (P : Problem) → Reached r (problemFrom s o) xs P
     → OrderedNetwork (P .waiting) × Operations (length xs) (P .waiting)
 
+-- The places of the waiting list. Document 01: of a release "later places drop by one"; of a method "Its nodes enter directly before that
+-- goal, in listed order, with their own afters".
+pub record PlacesAre01s : Type 0 where
+  pub nodes-as-listed : (o : Origin) (parent : Option Name) (nodes : List Node) (k : ℕ) (n : Node) → At nodes k n
+      → At (enter o parent 0 nodes) k
+      (record { name = record { origin = o; number = k }; parent = parent; after = n .after; formula = n .formula })
+  pub release-before : (w : List Waiting) (p i : ℕ) (a : Waiting) → i < p → At w i a → At (released w p) i a
+  pub release-behind : (w : List Waiting) (p i : ℕ) (a : Waiting) → p ≤ i → At w (suc i) a → At (released w p) i a
+  pub method-before : (w : List Waiting) (p i : ℕ) (o : Origin) (nodes : List Node) (a : Waiting) → i < p → At w i a
+      → At (decomposed w p o nodes) i a
+  pub method-behind : (w : List Waiting) (p i : ℕ) (o : Origin) (nodes : List Node) (a : Waiting) → p ≤ i → At w i a
+      → At (decomposed w p o nodes) (length nodes + i) a
+
 -- 000: "By convention, network(m) has a last node t_g containing goal(m) to ensure that m accomplishes its own goal." Document 01:
 -- "it comes after all the others by rule".
 
@@ -194,10 +207,14 @@ pub record StatesAreSetsOfAtoms : Type 1 where
   pub whole : (r : Rules) (P Q : Problem) (xs : List Step) → Reached r P xs Q → length (Q .state) ≡ length (P .state)
 
 -- Document 01: the cost is "at most 4,096 × 65,535 = 268,431,360".
-pub record CostsAreBounded : Type 1 where
+pub record CostsAreSums : Type 1 where
   pub bounded : (shop : List ℕ) → checkShop shop ≡ passed → (plan : List ℕ) → length plan ≤ mostSteps
       → costOf (domain shop) plan ≤ mostSteps * mostCost
   pub product : mostSteps * mostCost ≡ 268_431_360
+  -- The cost of a plan is the sum of its actions' costs.
+  pub of-none : (d : Domain) → costOf d [] ≡ 0
+  pub of-action : (d : Domain) (k : ℕ) (a : Action) (plan : List ℕ) → At (d .actions) k a
+      → costOf d (suc k ∷ plan) ≡ a .cost + costOf d plan
   -- A derived plan has at most as many actions as its trace has steps.
   pub short : (r : Rules) (n : ℕ) (P : Problem) (xs : List Step) (plan : List ℕ) (last : State) → Derivation r n P xs plan last
       → length plan ≤ length xs
@@ -209,7 +226,8 @@ pub record Read : Type 1 where
   pub questions-in-order : QuestionsInOrder
   pub first-before-second : FirstBeforeSecond
   pub networks-are-000s : NetworksAre000s
+  pub places-are-01s : PlacesAre01s
   pub methods-end-in-goals : MethodsEndInGoals
   pub effects-are-gamma : EffectsAreGamma
   pub states-are-sets : StatesAreSetsOfAtoms
-  pub costs-are-bounded : CostsAreBounded
+  pub costs-are-sums : CostsAreSums

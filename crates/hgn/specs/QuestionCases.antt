@@ -1,0 +1,201 @@
+-- A case for each question of document 01, "Questions": sheets at which it is answered no, and where that can be the question behind it too,
+-- with the number and the place that are told. Then replays and searches that tell apart what the marked cases do not.
+use Prim.Native.Nat.{ℕ, zero, suc}
+use mathlib.Core.Path.{_≡_}
+use mathlib.Core.List.{List, [], _∷_, _++_, map}
+use Rattle.hgn.specs.Questions.{Refusal, told}
+use Rattle.hgn.specs.Trace.{checkTrace}
+use Rattle.hgn.specs.Search.{Searched, search}
+use Rattle.hgn.specs.Cases.{Case, lent, coreShop, coreOrder, noGoalsOrder, refusedCase, coreRefused, expected, computed}
+
+-- Three sheets, asked one after the other, and what is told.
+pub record SheetCase : Type 0 where
+  pub shop : List ℕ
+  pub order : List ℕ
+  pub trace : List ℕ
+  pub number : ℕ
+  pub place : ℕ
+
+-- A shop sheet is refused; no words of an order or of a trace.
+abbrev pub ofShop : List ℕ → ℕ → ℕ → SheetCase
+ofShop shop number place = record { shop = shop; order = []; trace = []; number = number; place = place }
+
+-- A shop of one atom and no rows, and an order sheet that is refused.
+abbrev pub ofOrder : List ℕ → ℕ → ℕ → SheetCase
+ofOrder order number place = record { shop = 1 ∷ 0 ∷ 0 ∷ 0 ∷ []; order = order; trace = []; number = number; place = place }
+
+-- The same shop, an order without goals, and a trace that is refused.
+abbrev pub ofTrace : List ℕ → ℕ → ℕ → SheetCase
+ofTrace trace number place = record { shop = 1 ∷ 0 ∷ 0 ∷ 0 ∷ []; order = 1 ∷ 0 ∷ 0 ∷ []; trace = trace; number = number; place = place }
+
+abbrev pub sheetCases : List SheetCase
+sheetCases =
+    -- No words: 1 before 2. Sizes and length wrong: 2 before 3. Length and a tag wrong: 3 before 4.
+    ofShop [] 1 0
+    ∷ ofShop (0 ∷ 0 ∷ 0 ∷ 0 ∷ 0 ∷ []) 2 0
+    ∷ ofShop ((1 ∷ 0 ∷ 0 ∷ 1 ∷ []) ++ (9 ∷ 0 ∷ 0 ∷ [])) 3 0
+    -- Tag and value of row 1 wrong: 4 before 5. A value of row 1 wrong. Row 2 does not rise, and the sheet ends there: 6 before 7.
+    ∷ ofShop ((1 ∷ 1 ∷ 0 ∷ 2 ∷ []) ++ (1 ∷ 7 ∷ []) ++ (0 ∷ 9 ∷ [])) 4 1
+    ∷ ofShop ((1 ∷ 1 ∷ 0 ∷ 2 ∷ []) ++ (1 ∷ 3 ∷ []) ++ (0 ∷ 1 ∷ [])) 5 1
+    ∷ ofShop ((1 ∷ 0 ∷ 1 ∷ 3 ∷ []) ++ (2 ∷ 3 ∷ 3 ∷ []) ++ (0 ∷ 0 ∷ 0 ∷ [])) 6 2
+    -- It ends in a method's head, and M is 0: 7 before 8. M is 0, and the method has two alternatives at its end: 8 before 9.
+    ∷ ofShop ((1 ∷ 0 ∷ 0 ∷ 1 ∷ []) ++ (2 ∷ 0 ∷ [])) 7 0
+    ∷ ofShop ((1 ∷ 0 ∷ 0 ∷ 4 ∷ []) ++ (2 ∷ 7 ∷ 8 ∷ 8 ∷ []) ++ (0 ∷ 0 ∷ 0 ∷ 0 ∷ [])) 8 0
+    -- The second of two methods has two alternatives at its end, and the order no words: 9 before 11.
+    ∷ ofShop ((1 ∷ 0 ∷ 2 ∷ 7 ∷ []) ++ (2 ∷ 7 ∷ 8 ∷ 2 ∷ 7 ∷ 8 ∷ 8 ∷ []) ++ (0 ∷ 0 ∷ 0 ∷ 0 ∷ 0 ∷ 0 ∷ 0 ∷ [])) 9 1
+    -- No words: 11 before 12. Another F and a wrong length: 12 before 13. Length and a tag wrong: 13 before 14.
+    ∷ ofOrder [] 11 0
+    ∷ ofOrder (2 ∷ 0 ∷ 0 ∷ 0 ∷ []) 12 0
+    ∷ ofOrder ((1 ∷ 0 ∷ 1 ∷ []) ++ (9 ∷ 0 ∷ 0 ∷ [])) 13 0
+    -- Tag and value of row 1 wrong: 14 before 15. A value of row 3 wrong. Row 1 does not rise, and the sheet ends in a node: 16 before 17.
+    ∷ ofOrder ((1 ∷ 1 ∷ 2 ∷ []) ++ (7 ∷ 9 ∷ []) ++ (0 ∷ 9 ∷ [])) 14 1
+    ∷ ofOrder ((1 ∷ 1 ∷ 4 ∷ []) ++ (12 ∷ 7 ∷ 8 ∷ 9 ∷ []) ++ (0 ∷ 0 ∷ 0 ∷ 1 ∷ [])) 15 3
+    ∷ ofOrder ((1 ∷ 1 ∷ 3 ∷ []) ++ (12 ∷ 12 ∷ 7 ∷ []) ++ (0 ∷ 0 ∷ 0 ∷ [])) 16 1
+    -- It ends in a node, and G is 2: 17 before 18. G is 1 of no goals, and the trace has no words: 18 before 21.
+    ∷ ofOrder ((1 ∷ 2 ∷ 1 ∷ []) ++ (7 ∷ 0 ∷ [])) 17 0
+    ∷ ofOrder (1 ∷ 1 ∷ 0 ∷ []) 18 0
+    -- No words. L 4,097 and a wrong length: 22 before 23. A wrong length. All pass.
+    ∷ ofTrace [] 21 0
+    ∷ ofTrace (4097 ∷ []) 22 0
+    ∷ ofTrace (1 ∷ []) 23 0
+    ∷ ofTrace (0 ∷ []) 0 0
+    ∷ []
+
+abbrev pub toldOf : SheetCase → Refusal
+toldOf c = told (checkTrace (c .shop) (c .order) (c .trace))
+
+abbrev pub refusalOf : SheetCase → Refusal
+refusalOf c = record { number = c .number; place = c .place }
+
+-- Two atoms, atom 0 true at first. An action of cost 7 that needs atom 0 false and makes atom 1 true.
+abbrev pub falseShop : List ℕ
+falseShop = (2 ∷ 1 ∷ 0 ∷ 3 ∷ []) ++ (1 ∷ 4 ∷ 5 ∷ []) ++ (7 ∷ 0 ∷ 1 ∷ [])
+
+-- One goal: atom 1 true; or, in the second, atom 0 false.
+abbrev pub wantTrue : List ℕ
+wantTrue = (2 ∷ 1 ∷ 4 ∷ []) ++ (12 ∷ 7 ∷ 8 ∷ 9 ∷ []) ++ (0 ∷ 0 ∷ 0 ∷ 1 ∷ [])
+
+abbrev pub wantFalse : List ℕ
+wantFalse = (2 ∷ 1 ∷ 4 ∷ []) ++ (12 ∷ 7 ∷ 8 ∷ 10 ∷ []) ++ (0 ∷ 0 ∷ 0 ∷ 0 ∷ [])
+
+-- Three atoms. An action of cost 3 that makes atom 2 true, and one of cost 10 that makes atom 0 true.
+abbrev pub thirdShop : List ℕ
+thirdShop = (3 ∷ 2 ∷ 0 ∷ 4 ∷ []) ++ (1 ∷ 5 ∷ 1 ∷ 5 ∷ []) ++ (3 ∷ 2 ∷ 10 ∷ 0 ∷ [])
+
+-- One goal with three alternatives: atom 0, atom 1, or atom 2.
+abbrev pub thirdOrder : List ℕ
+thirdOrder = (3 ∷ 1 ∷ 7 ∷ []) ++ (7 ∷ 8 ∷ 9 ∷ 8 ∷ 9 ∷ 8 ∷ 9 ∷ []) ++ (0 ∷ 0 ∷ 0 ∷ 0 ∷ 1 ∷ 0 ∷ 2 ∷ [])
+
+-- For the long core's shop: one goal, atom 0; and two goals, atom 0 and atom 3, neither after the other.
+abbrev pub barkOrder : List ℕ
+barkOrder = (4 ∷ 1 ∷ 3 ∷ []) ++ (7 ∷ 8 ∷ 9 ∷ []) ++ (0 ∷ 0 ∷ 0 ∷ [])
+
+abbrev pub pairOrder : List ℕ
+pairOrder = (4 ∷ 2 ∷ 6 ∷ []) ++ (7 ∷ 8 ∷ 9 ∷ 7 ∷ 8 ∷ 9 ∷ []) ++ (0 ∷ 0 ∷ 0 ∷ 0 ∷ 0 ∷ 3 ∷ [])
+
+-- One atom, no actions, and a method of one node, which wants it true.
+abbrev pub fullShop : List ℕ
+fullShop = (1 ∷ 0 ∷ 1 ∷ 4 ∷ []) ++ (2 ∷ 7 ∷ 8 ∷ 9 ∷ []) ++ (0 ∷ 0 ∷ 0 ∷ 0 ∷ [])
+
+-- These tags so many times.
+unfoldable pub repeated : ℕ → List ℕ → List ℕ
+repeated zero tags = []
+repeated (suc n) tags = tags ++ repeated n tags
+
+-- 64 goals that want the atom true, and 64 that want nothing.
+abbrev pub fullOrder : List ℕ
+fullOrder = (1 ∷ 64 ∷ 192 ∷ []) ++ repeated 64 (7 ∷ 8 ∷ 9 ∷ []) ++ repeated 192 (0 ∷ [])
+
+abbrev pub emptyOrder : List ℕ
+emptyOrder = (1 ∷ 64 ∷ 128 ∷ []) ++ repeated 64 (7 ∷ 8 ∷ []) ++ repeated 128 (0 ∷ [])
+
+-- A trace that is accepted.
+abbrev pub acceptedCase : List ℕ → List ℕ → List ℕ → ℕ → List ℕ → ℕ → ℕ → List ℕ → Case
+acceptedCase shop order trace steps atoms count cost room = record {
+  shop = shop;
+  order = order;
+  trace = trace;
+  number = 0;
+  place = steps;
+  atoms = atoms;
+  count = count;
+  cost = cost;
+  room = room;
+}
+
+abbrev pub stepCases : List Case
+stepCases =
+    -- Step 1, behind method 0: past the last place, by an unknown move: 25 before 26. At place 4, which is not free, by an unknown move: 26
+    -- before 28. There by action 2, whose needs do not hold: 28 before 30.
+    coreRefused ((2 ∷ []) ++ (256 ∷ 5 ∷ []) ++ (0 ∷ 9 ∷ [])) 25 1
+    ∷ coreRefused ((2 ∷ []) ++ (256 ∷ 5 ∷ []) ++ (0 ∷ 4 ∷ [])) 26 1
+    ∷ coreRefused ((2 ∷ []) ++ (256 ∷ 2 ∷ []) ++ (0 ∷ 4 ∷ [])) 28 1
+    -- Action 2, whose needs do not hold, and which is not relevant to atom 3: 30 before 31.
+    ∷ coreRefused (1 ∷ 2 ∷ 0 ∷ []) 30 0
+    -- A need of an atom false, which is true; a goal that wants it false.
+    ∷ refusedCase falseShop wantTrue (1 ∷ 1 ∷ 0 ∷ []) 30 0
+    ∷ refusedCase falseShop wantFalse (1 ∷ 0 ∷ 0 ∷ []) 29 0
+    -- The long core's method at a goal that it is not relevant to.
+    ∷ refusedCase coreShop barkOrder (1 ∷ 256 ∷ 0 ∷ []) 31 0
+    -- Action 1 alone: its own cost.
+    ∷ acceptedCase coreShop barkOrder ((2 ∷ []) ++ (1 ∷ 0 ∷ []) ++ (0 ∷ 0 ∷ [])) 2 (0 ∷ []) 1 3 (1 ∷ 91 ∷ 92 ∷ 93 ∷ 94 ∷ 95 ∷ 96 ∷ 97 ∷ 98 ∷ 99 ∷ 100 ∷ 101 ∷ [])
+    -- An action relevant by the third alternative, and the goal held by it.
+    ∷ acceptedCase thirdShop thirdOrder ((2 ∷ []) ++ (1 ∷ 0 ∷ []) ++ (0 ∷ 0 ∷ [])) 2 (2 ∷ []) 1 3 (1 ∷ 91 ∷ 92 ∷ 93 ∷ 94 ∷ 95 ∷ 96 ∷ 97 ∷ 98 ∷ 99 ∷ 100 ∷ 101 ∷ [])
+    -- The method at place 1: its nodes enter there, behind the other goal. Action 1 for its first node, at place 1; the second, at place 2, is
+    -- not free. Or a release of the other goal at place 0, then of the first node, which is there now, and action 2 for the second.
+    ∷ refusedCase coreShop pairOrder ((3 ∷ []) ++ (256 ∷ 1 ∷ 0 ∷ []) ++ (1 ∷ 1 ∷ 2 ∷ [])) 28 2
+    ∷ refusedCase coreShop pairOrder ((5 ∷ []) ++ (256 ∷ 1 ∷ 0 ∷ 0 ∷ 2 ∷ []) ++ (1 ∷ 1 ∷ 0 ∷ 0 ∷ 0 ∷ [])) 33 5
+    -- A method where 64 wait: 32; and where it is not relevant either: 31 before 32.
+    ∷ refusedCase fullShop fullOrder (1 ∷ 256 ∷ 0 ∷ []) 32 0
+    ∷ refusedCase fullShop emptyOrder (1 ∷ 256 ∷ 0 ∷ []) 31 0
+    ∷ []
+
+-- A search's sheets, depth and room, and what it answers and leaves.
+pub record SearchCase : Type 0 where
+  pub shop : List ℕ
+  pub order : List ℕ
+  pub depth : ℕ
+  pub room : List ℕ
+  pub number : ℕ
+  pub place : ℕ
+  pub exit : List ℕ
+
+-- Two atoms, and an action of cost 1 for each: action 1 makes atom 1 true, action 2 atom 0. Two goals, atom 0 and then atom 1, neither after
+-- the other.
+abbrev pub tieShop : List ℕ
+tieShop = (2 ∷ 2 ∷ 0 ∷ 4 ∷ []) ++ (1 ∷ 5 ∷ 1 ∷ 5 ∷ []) ++ (1 ∷ 1 ∷ 1 ∷ 0 ∷ [])
+
+abbrev pub tieOrder : List ℕ
+tieOrder = (2 ∷ 2 ∷ 6 ∷ []) ++ (7 ∷ 8 ∷ 9 ∷ 7 ∷ 8 ∷ 9 ∷ []) ++ (0 ∷ 0 ∷ 0 ∷ 0 ∷ 0 ∷ 1 ∷ [])
+
+abbrev pub searchCases : List SearchCase
+searchCases =
+    -- D 33 and no room: 41 before 42. No room and no trace: 42 before 43. No trace of one step.
+    record { shop = coreShop; order = coreOrder; depth = 33; room = []; number = 41; place = 0; exit = [] }
+    ∷ record { shop = coreShop; order = coreOrder; depth = 1; room = []; number = 42; place = 0; exit = [] }
+    ∷ record { shop = coreShop; order = coreOrder; depth = 1; room = lent; number = 43; place = 0; exit = lent }
+    -- D 32 in a room of 65 words, with nothing to do.
+    ∷ record { shop = coreShop; order = noGoalsOrder; depth = 32; room = repeated 65 (9 ∷ []); number = 0; place = 0; exit = 0 ∷ repeated 64 (9 ∷ []) }
+    -- The lower place first, though its move is the higher; then the release before the other action.
+    ∷ record {
+      shop = tieShop;
+      order = tieOrder;
+      depth = 4;
+      room = lent;
+      number = 0;
+      place = 4;
+      exit = (4 ∷ []) ++ (2 ∷ 0 ∷ 1 ∷ 0 ∷ []) ++ (0 ∷ 0 ∷ 0 ∷ 0 ∷ []) ++ (99 ∷ 100 ∷ 101 ∷ []);
+    }
+    ∷ []
+
+abbrev pub searchedCase : SearchCase → Searched
+searchedCase c = search (c .shop) (c .order) (c .depth) (c .room)
+
+abbrev pub expectedSearch : SearchCase → Searched
+expectedSearch c = record { refusal = record { number = c .number; place = c .place }; room = c .exit }
+
+-- Every case comes out as it says.
+pub record QuestionCases : Type 0 where
+  pub sheets : map toldOf sheetCases ≡ map refusalOf sheetCases
+  pub steps : map computed stepCases ≡ map expected stepCases
+  pub searches : map searchedCase searchCases ≡ map expectedSearch searchCases
