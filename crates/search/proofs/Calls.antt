@@ -8,7 +8,7 @@ use mathlib.Core.Option.{Option}
 use lib.ListN.{length}
 use borrow.Author.Tests.{lt-leb, le-leb}
 use Rattle.hgn.specs.Questions as Questions
-use Rattle.hgn.specs.Questions.{_asks_, placed, Verdict, passed, refused, firstNo, told}
+use Rattle.hgn.specs.Questions.{noRefusal, _asks_, placed, Verdict, passed, refused, firstNo, told}
 use Rattle.hgn.specs.Run.{Step}
 use Rattle.hgn.specs.Order.{checkOrder}
 use Rattle.hgn.specs.Search.{Searched, isFound, stepsFound, searched, noTrace, written, mostDepth, searchQuestions, search}
@@ -71,8 +71,8 @@ module _ (shop sheet : List ℕ) (depth : ℕ) (room : List ℕ) where
 
         -- The trace is written.
         pub trace-found : f .steps .found ≡ true → f .length ≤ length (f .steps .moves) → f .length ≤ length (f .steps .places)
-            → (r : Refusal) → refusalOf r ≡ placed (f .length) (told passed) → (exit : List ℕ) → exit ≡ traceOf f room → Gives r exit
+            → (r : Refusal) → refusalOf r ≡ placed (f .length) noRefusal → (exit : List ℕ) → exit ≡ traceOf f room → Gives r exit
         unfolding firstNo isFound stepsFound written
         trace-found b m p r a exit w =
-            ap₂ answer (a ∙ ap (λ (n : ℕ). placed n (told passed)) (sym (steps-length f m p))) (w ∙ trace-is f m p room)
+            ap₂ answer (a ∙ ap (λ (n : ℕ). placed n noRefusal) (sym (steps-length f m p))) (w ∙ trace-is f m p room)
             ∙ sym (search-passed shop sheet depth room (asked ∙ rw b) ∙ ap (λ (o : Option (List Step)). written room (stepsFound o)) (sym e) ∙ rw b)
