@@ -1,4 +1,4 @@
--- Every statement of the pages `specs/Demands.antt`, `specs/Readings.antt` and `specs/Cases.antt` is proved. Assumes nothing.
+-- Every statement of the pages `specs/Demands.antt` and `specs/Readings.antt` is proved. Assumes nothing.
 use Rattle.hgn.specs.Demands.{Promised}
 use Rattle.hgn.specs.Readings.{Read}
 use Rattle.hgn.proofs.Answered.{demand-1}

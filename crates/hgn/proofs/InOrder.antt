@@ -48,8 +48,11 @@ module _ (shop sheet trace room : List ℕ) where
   number-by k e = ap (λ (c : Replayed). c .answer .refusal .number) (replay-refused shop sheet trace room _ e)
 
   replay-order : ReplayOrder shop sheet trace room
-  unfolding checkReplay inputQuestions checkOrder checkTrace traceQuestions firstNo
+  unfolding checkReplay inputQuestions checkOrder checkTrace traceQuestions firstNo refusal
   replay-order = record {
+    sheets-first = λ q e.
+        ap (λ (c : Replayed). c .answer .refusal)
+        (replay-refused shop sheet trace room q (append-refused (shopQuestions shop ++ orderQuestions shop sheet ++ traceQuestions trace) _ q e));
     size-before-room = λ h one few size short.
         number-by 23
         (append-refused (shopQuestions shop ++ orderQuestions shop sheet ++ traceQuestions trace) _ _
@@ -73,9 +76,10 @@ module _ (shop sheet : List ℕ) (depth : ℕ) (room : List ℕ) where
   search-by q e = ap (λ (c : Searched). c .refusal .number) (search-refused shop sheet depth room q e)
 
   search-order : SearchOrder shop sheet depth room
+  unfolding noTrace
   search-order = record {
-    goals-before-depth = λ q h e l.
-        search-by q (sheets-refused shop sheet depth room q h) ∙ e;
+    sheets-first = λ q h.
+        ap (λ (c : Searched). c .refusal) (search-refused shop sheet depth room q (sheets-refused shop sheet depth room q h));
     depth-before-room = λ h l k. search-by _ (depth-refused shop sheet depth room h (lt-leb _ _ l));
     room-before-none = λ h l k none. search-by _ (room-refused shop sheet depth room h (le-leb _ _ l) (lt-leb _ _ k));
   }

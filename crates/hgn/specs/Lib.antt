@@ -23,6 +23,6 @@ pub mod Written
 pub mod Definition1
 pub mod Readings
 pub mod Demands
--- "One core of sixty centimetres": the marked cases.
+-- "One core of sixty centimetres": the marked cases; and a case for each question.
 pub mod Cases
 pub mod QuestionCases

@@ -72,8 +72,9 @@ pub record StepOrder (r : Rules) (n : ℕ) (P : Problem) (x : Step) : Type 0 whe
       → r .mayUse (methodAt (r .domain) m) (goalAt (P .waiting) (x .place) .formula) ≡ false
       → r .limit < length (moved (r .domain) n P (x .place) (use-method m) .waiting) → RefusedBy 31 (stepped r n P x)
 
--- Of a replay: 23 before 24, and 24 before 25.
+-- Of a replay: the sheets' questions first, shop, order, trace; 23 before 24, and 24 before 25.
 pub record ReplayOrder (shop sheet trace room : List ℕ) : Type 0 where
+  pub sheets-first : (q : Refusal) → checkTrace shop sheet trace ≡ Questions.refused q → replay shop sheet trace room .answer .refusal ≡ q
   pub size-before-room : checkOrder shop sheet ≡ passed → 1 ≤ length trace → stepCount trace ≤ mostSteps
       → length trace ≢ sizeWords + 2 * stepCount trace → length room < stepCount trace
       → replay shop sheet trace room .answer .refusal .number ≡ 23
@@ -81,10 +82,9 @@ pub record ReplayOrder (shop sheet trace room : List ℕ) : Type 0 where
       → (x : Step) (xs : List Step) → stepsOf trace ≡ x ∷ xs → length (order sheet .goals) ≤ x .place
       → replay shop sheet trace room .answer .refusal .number ≡ 24
 
--- Of a search: 18 before 41, 41 before 42, 42 before 43.
+-- Of a search: the sheets' questions first, so 18 before 41; 41 before 42, 42 before 43.
 pub record SearchOrder (shop sheet : List ℕ) (depth : ℕ) (room : List ℕ) : Type 0 where
-  pub goals-before-depth : (q : Refusal) → checkOrder shop sheet ≡ Questions.refused q → q .number ≡ 18 → mostDepth < depth
-      → search shop sheet depth room .refusal .number ≡ 18
+  pub sheets-first : (q : Refusal) → checkOrder shop sheet ≡ Questions.refused q → search shop sheet depth room .refusal ≡ q
   pub depth-before-room : checkOrder shop sheet ≡ passed → mostDepth < depth → length room < sizeWords + 2 * depth
       → search shop sheet depth room .refusal .number ≡ 41
   pub room-before-none : checkOrder shop sheet ≡ passed → depth ≤ mostDepth → length room < sizeWords + 2 * depth
