@@ -14,7 +14,7 @@ ghost use Rattle.reading.specs.Refusals.{refusalOf};
 ghost use Rattle.scan.specs.Scanned.{Scanned};
 
 // A row by its number, from 0.
-pub struct Row(pub usize);
+pub struct Row(pub u16);
 
 // Where a sheet's rows stand: behind its sizes, first all tags, then all values.
 pub struct Layout {
@@ -44,11 +44,11 @@ impl Scan {
     }
 
     // The question of this number failed at a row.
-    fn refused(number: u16, row: u16, position: Position, tally: Tally) -> Scan
-        ensures { λ r. ⌜ refusalOf (r .refusal) ≡ (number asks false askedAt row) .refusal ⌝ }
+    fn refused(number: u16, row: Row, position: Position, tally: Tally) -> Scan
+        ensures { λ r. ⌜ refusalOf (r .refusal) ≡ (number asks false askedAt row .0) .refusal ⌝ }
     {
         let unplaced = Refusal::by(number);
-        let refusal = unplaced.at(row);
+        let refusal = unplaced.at(row.0);
         Scan {
             refusal: refusal,
             position: position,
@@ -75,7 +75,7 @@ impl Layout {
         requires { ⌜ (row .0 < self .rows) × (self .sizes + (self .rows + self .rows) ≤ length (now words)) ⌝ }
         ensures { λ r. ⌜ r ≡ getD (now (words .entry)) (self .sizes + row .0) 0 ⌝ }
     {
-        let at = self.sizes + row.0;
+        let at = self.sizes + row.0 as usize;
         words[at]
     }
 
@@ -83,7 +83,7 @@ impl Layout {
         requires { ⌜ (row .0 < self .rows) × (self .sizes + (self .rows + self .rows) ≤ length (now words)) ⌝ }
         ensures { λ r. ⌜ r ≡ getD (now (words .entry)) (self .sizes + self .rows + row .0) 0 ⌝ }
     {
-        let at = self.sizes + self.rows + row.0;
+        let at = self.sizes + self.rows + row.0 as usize;
         words[at]
     }
 
@@ -97,10 +97,10 @@ impl Layout {
         let mut tally = Tally::nothing();
         let mut i = 0;
         while i < rows {
-            let row = i;
+            let row = Row(i as u16);
             i += 1;
-            let tag = self.tag(words, Row(row));
-            let value = self.value(words, Row(row));
+            let tag = self.tag(words, row);
+            let value = self.value(words, row);
             if position.goes_on(atoms, tag, value) {
                 tally = tally.gone_on(tag);
                 position = position.above(value);
@@ -112,8 +112,7 @@ impl Layout {
                         position = next;
                     }
                     Reading::Refused(number) => {
-                        let place = row as u16;
-                        return Scan::refused(number, place, position, tally);
+                        return Scan::refused(number, row, position, tally);
                     }
                 }
             }

@@ -32,6 +32,9 @@ nothing-requires c κs = search needs
 loop-holds : tie.Need-loop-holds Inv-loop μ-loop
 loop-holds c = (omega arith, going-start _ _ _ _ _ (c .before .opening .ensures) (c .nothing .ensures))
 
+cast-row : tie.Need-cast-t16 Inv-loop μ-loop
+cast-row c = omega arith
+
 add-i : tie.Need-add-i Inv-loop μ-loop
 add-i c = omega arith
 
@@ -97,9 +100,6 @@ loop-again-2 c =
 enum-known-reading-2 : tie.Need-enum-known-reading-2 Inv-loop μ-loop
 enum-known-reading-2 c = search needs
 
-cast-place : tie.Need-cast-place Inv-loop μ-loop
-cast-place c = omega arith
-
 refused-requires : tie.Need-refused-requires Inv-loop μ-loop
 refused-requires c κs = search needs
 
@@ -146,6 +146,7 @@ scan-spec =
     opening-requires
     nothing-requires
     loop-holds
+    cast-row
     add-i
     tag-requires
     value-requires
@@ -160,7 +161,6 @@ scan-spec =
     loop-less-2
     loop-again-2
     enum-known-reading-2
-    cast-place
     refused-requires
     returns
     passed-requires
