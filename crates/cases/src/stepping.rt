@@ -4,10 +4,9 @@ use crate::line;
 use display::forward;
 use network::waiting::Place;
 use replay::first;
-use scan::rows::Layout;
 use scan::rows::word;
-use sheets::check::Shop;
 use sheets::check::check_order;
+use spans::index::Tables;
 use steps::problem::Problem;
 use steps::problem::Stepped;
 ghost use mathlib.Core.Path.{_≡_};
@@ -17,7 +16,7 @@ ghost use Rattle.hgn.specs.Rows.{mostRows};
 ghost use Rattle.hgn.specs.Shop.{mostActions, mostMethods};
 ghost use Rattle.hgn.specs.Order.{checkOrder};
 ghost use Rattle.hgn.specs.Questions.{passed};
-ghost use Rattle.network.specs.Tables.{Indexed};
+ghost use Rattle.spans.specs.Tables.{Indexed};
 
 fn write_shown(shown: Stepped) {
     let refusal = shown.refusal;
@@ -48,11 +47,10 @@ fn write_steps<'a>(
     shop: &'a [u16],
     order: &'a [u16],
     trace: &[u16],
-    ends: &[u16],
-    starts: &[u16],
+    tables: &[u16],
     first: Problem,
 )
-    requires { ⌜ Indexed (now shop) (now order) (now ends) (now starts) ⌝ }
+    requires { ⌜ Indexed (now shop) (now order) (now tables) ⌝ }
     requires { ⌜ first .waiting .count ≤ 64 ⌝ }
 {
     let steps = word(trace, 0) as usize;
@@ -68,8 +66,7 @@ fn write_steps<'a>(
             problem,
             shop,
             order,
-            ends,
-            starts,
+            tables,
             number,
             mv,
             Place(place),
@@ -86,22 +83,20 @@ fn write_indexed<'a>(
     shop: &'a [u16],
     order: &'a [u16],
     trace: &[u16],
-    ends: &mut [u16],
-    starts: &mut [u16],
+    tables: &mut [u16],
 )
     requires { ⌜ checkOrder (now shop) (now order) ≡ passed ⌝ }
-    requires { ⌜ (mostRows ≤ length (now ends)) × (suc (mostActions + mostMethods) ≤ length (now starts)) ⌝ }
+    requires { ⌜ mostRows + suc (mostActions + mostMethods) ≤ length (now tables) ⌝ }
 {
-    let first = first::prepared(shop, order, ends, starts);
-    write_steps(shop, order, trace, ends, starts, first);
+    let first = first::prepared(shop, order, tables);
+    write_steps(shop, order, trace, tables, first);
 }
 
 fn write_checked<'a>(shop: &'a [u16], order: &'a [u16], trace: &[u16])
     requires { ⌜ checkOrder (now shop) (now order) ≡ passed ⌝ }
 {
-    let mut ends = [0u16; Layout::MOST_ROWS as usize];
-    let mut starts = [0u16; Shop::MOST_BLOCKS + 1];
-    write_indexed(shop, order, trace, &mut ends, &mut starts);
+    let mut tables = [0u16; Tables::WORDS];
+    write_indexed(shop, order, trace, &mut tables);
 }
 
 // The steps of a list, as a trace has them, on sheets that pass; else what their check answers.

@@ -1,4 +1,4 @@
--- What the functions of `forward.rt` are passed beside the display's record: the words of the shop and of the order, the shop's two tables, the step's number and move, and its place.
+-- What the functions of `forward.rt` are passed beside the display's record: the words of the shop and of the order, the shop's table, the step's number and move, and its place.
 -- Both walks cite this.
 --     Beside κs, Passed, machine a     the types, their values and their machine values.        Own κs a     what they own
 --     again            it is had twice, since each is Copy: once for the callee, and once for the exit
@@ -32,7 +32,7 @@ use denote.Struct.Laws as LL
 use denote.Triple.Walked.{Stay, stay-none, stay-none-slice, Goes, goes-none, goes-none-slice}
 use denote.Exit.{yes}
 use Rattle.hgn.specs.Run.{Step}
-use Rattle.network.specs.Tables.{Indexed}
+use Rattle.spans.specs.Tables.{Indexed}
 use Rattle.reading.specs.declared.refusal.Refusal.{Refusal}
 use Rattle.steps.specs.declared.problem.Problem.{Problem}
 use Rattle.network.specs.declared.waiting.Place.{Place}
@@ -46,44 +46,44 @@ abbrev pub Words : Type 0
 Words = RefT (List ℕ)
 
 -- what a slice owns does not say its lifetime's name
-abbrev pub Beside : Lfts 3 → List RattleType
-Beside κs = ShrSlice (named 0) (κs .0) u16 ∷ ShrSlice (named 0) (κs .0) u16 ∷ ShrSlice (named 0) (κs .1 .0) u16 ∷ ShrSlice (named 0) (κs .1 .1 .0) u16 ∷ u16 ∷ u16 ∷ L.the-row ∷ []
+abbrev pub Beside : Lfts 2 → List RattleType
+Beside κs = ShrSlice (named 0) (κs .0) u16 ∷ ShrSlice (named 0) (κs .0) u16 ∷ ShrSlice (named 0) (κs .1 .0) u16 ∷ u16 ∷ u16 ∷ L.the-row ∷ []
 
 abbrev pub Passed : Type 0
-Passed = Words × (Words × (Words × (Words × (ℕ × (ℕ × (Place × Unit {0}))))))
+Passed = Words × (Words × (Words × (ℕ × (ℕ × (Place × Unit {0})))))
 
-abbrev pub spelled : (κs : Lfts 3) → Spells (Beside κs)
-spelled κs = (slice-vals, (slice-vals, (slice-vals, (slice-vals, (uint-vals w16, (uint-vals w16, (LL.vals L.the-type L′.the-laws, tt)))))))
+abbrev pub spelled : (κs : Lfts 2) → Spells (Beside κs)
+spelled κs = (slice-vals, (slice-vals, (slice-vals, (uint-vals w16, (uint-vals w16, (LL.vals L.the-type L′.the-laws, tt))))))
 
-abbrev pub told : (κs : Lfts 3) → Tellss (Beside κs) (Ises (Beside κs)) (spelled κs)
+abbrev pub told : (κs : Lfts 2) → Tellss (Beside κs) (Ises (Beside κs)) (spelled κs)
 told κs =
     let words : (κ : Lft) → Tells (ShrSlice (named 0) κ u16) (Is (ShrSlice (named 0) κ u16)) slice-vals = λ κ. shr-slice-tells (named 0) κ u16 in
-    (words (κs .0), (words (κs .0), (words (κs .1 .0), (words (κs .1 .1 .0), (uint-tells w16, (uint-tells w16, (LL.tells L.the-type L′.the-laws, tt)))))))
+    (words (κs .0), (words (κs .0), (words (κs .1 .0), (uint-tells w16, (uint-tells w16, (LL.tells L.the-type L′.the-laws, tt))))))
 
 -- the step's number, and the step
 abbrev pub number : Passed → ℕ
-number a = a .1 .1 .1 .1 .0
+number a = a .1 .1 .1 .0
 
 abbrev pub step-of : Passed → Step
-step-of a = record { move = a .1 .1 .1 .1 .1 .0; place = a .1 .1 .1 .1 .1 .1 .0 .0 }
+step-of a = record { move = a .1 .1 .1 .1 .0; place = a .1 .1 .1 .1 .1 .0 .0 }
 
 abbrev pub Machine : Type 0
-Machine = List Val × (List Val × (List Val × (List Val × (List Val × (List Val × (List Val × Unit {0}))))))
+Machine = List Val × (List Val × (List Val × (List Val × (List Val × (List Val × Unit {0})))))
 
 abbrev pub machine : Passed → Machine
 machine a = (
   slice-vals (a .0),
   (
     slice-vals (a .1 .0),
-    (slice-vals (a .1 .1 .0), (slice-vals (a .1 .1 .1 .0), (vint w16 (number a) ∷ [], (vint w16 (step-of a .move) ∷ [], (LL.vals L.the-type L′.the-laws (a .1 .1 .1 .1 .1 .1 .0), tt))))),
+    (slice-vals (a .1 .1 .0), (vint w16 (number a) ∷ [], (vint w16 (step-of a .move) ∷ [], (LL.vals L.the-type L′.the-laws (a .1 .1 .1 .1 .1 .0), tt)))),
   ),
 )
 
-abbrev pub Own : Lfts 3 → Passed → Fml
+abbrev pub Own : Lfts 2 → Passed → Fml
 Own κs a = owns (Beside κs) a (machine a)
 
 abbrev pub Checked : Passed → Type 0
-Checked a = Indexed (a .0 .now) (a .1 .0 .now) (a .1 .1 .0 .now) (a .1 .1 .1 .0 .now)
+Checked a = Indexed (a .0 .now) (a .1 .0 .now) (a .1 .1 .0 .now)
 
 abbrev pub Few : Passed → Problem → Type 0
 Few a h = (h .waiting .count ≤ 64) × (number a < 65535)
@@ -119,11 +119,11 @@ module _ {M : Type 1} (𝓤 : URA M) (H : Heap 𝓤) (A : Atoms 𝓤) (W : Given
     pub place-goes : Goes 𝓤 H A W n (plain (λ _. L.the-row)) yes place-stay
     place-goes = goes-none 𝓤 H A W n (λ _. L.the-row) yes (λ κs x f. refl)
 
-  pub again : (κs : Lfts 3) (a : Passed) → ent 𝓤 (sem 𝓤 H A (Own κs a)) (sep 𝓤 (sem 𝓤 H A (Own κs a)) (sem 𝓤 H A (Own κs a)))
+  pub again : (κs : Lfts 2) (a : Passed) → ent 𝓤 (sem 𝓤 H A (Own κs a)) (sep 𝓤 (sem 𝓤 H A (Own κs a)) (sem 𝓤 H A (Own κs a)))
   again κs a =
       let words : (κ : Lft) → Copy 𝓤 H A (ShrSlice (named 0) κ u16) = λ κ. shr-slice-copy 𝓤 H A W (named 0) κ u16 in
       let copy : Copy 𝓤 H A u16 = uint-copy 𝓤 H A W w16 in
-      twices 𝓤 H A W (Beside κs) (words (κs .0), (words (κs .0), (words (κs .1 .0), (words (κs .1 .1 .0), (copy, (copy, (LL.copy L.the-type L′.the-copy 𝓤 H A W, tt))))))) a (machine a)
+      twices 𝓤 H A W (Beside κs) (words (κs .0), (words (κs .0), (words (κs .1 .0), (copy, (copy, (LL.copy L.the-type L′.the-copy 𝓤 H A W, tt)))))) a (machine a)
 
   pub typed-problem : (p : Problem) (v : Val) → Is P.the-row p (v ∷ []) → Holds (hasTy P′.mir v) × WT v
   typed-problem p v is = LL.lawful P.the-type P′.the-laws 𝓤 H A W .typed p (v ∷ []) is .0

@@ -7,7 +7,7 @@ use steps::problem::Stepped;
 use steps::step;
 ghost use mathlib.Core.Path.{_≡_};
 ghost use Prim.Native.Nat.{_≤_, _<_};
-ghost use Rattle.network.specs.Tables.{Indexed};
+ghost use Rattle.spans.specs.Tables.{Indexed};
 ghost use Rattle.display.specs.Forward.{Forward};
 
 // The question that refuses the step, its number 0 when it is taken.
@@ -29,18 +29,17 @@ pub fn step_forward<'a>(
     bench: &mut Problem,
     shop: &'a [u16],
     order: &'a [u16],
-    ends: &[u16],
-    starts: &[u16],
+    tables: &[u16],
     number: u16,
     mv: u16,
     place: Place,
 ) -> Refusal
-    requires { ⌜ Indexed (now shop) (now order) (now ends) (now starts) ⌝ }
+    requires { ⌜ Indexed (now shop) (now order) (now tables) ⌝ }
     requires { ⌜ (now bench .waiting .count ≤ 64) × (number < 65535) ⌝ }
     ensures { λ r. ⌜ Forward (now (shop .entry)) (now (order .entry)) number (record { move = mv; place = place .0 }) (now (bench .entry)) r (now (bench .exit)) ⌝ }
 {
     let problem = *bench;
-    let stepped = step::step(shop, order, ends, starts, problem, number, mv, place);
+    let stepped = step::step(shop, order, tables, problem, number, mv, place);
     *bench = record_of(stepped);
     refusal_of(stepped)
 }
@@ -57,17 +56,16 @@ pub fn show_step<'a>(
     problem: Problem,
     shop: &'a [u16],
     order: &'a [u16],
-    ends: &[u16],
-    starts: &[u16],
+    tables: &[u16],
     number: u16,
     mv: u16,
     place: Place,
 ) -> Stepped
-    requires { ⌜ Indexed (now shop) (now order) (now ends) (now starts) ⌝ }
+    requires { ⌜ Indexed (now shop) (now order) (now tables) ⌝ }
     requires { ⌜ (problem .waiting .count ≤ 64) × (number < 65535) ⌝ }
     ensures { λ r. ⌜ Forward (now (shop .entry)) (now (order .entry)) number (record { move = mv; place = place .0 }) problem (r .refusal) (r .problem) ⌝ }
 {
     let mut bench = problem;
-    let refusal = step_forward(&mut bench, shop, order, ends, starts, number, mv, place);
+    let refusal = step_forward(&mut bench, shop, order, tables, number, mv, place);
     made(refusal, bench)
 }

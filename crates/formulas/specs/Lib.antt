@@ -1,3 +1,2 @@
 -- The rows of a part, and the literals that a test of relevance looks for.
-pub mod Spanned
 pub mod Wanted

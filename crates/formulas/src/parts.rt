@@ -6,7 +6,7 @@ use spans::index::Span;
 ghost use mathlib.Core.Path.{_≡_};
 ghost use Rattle.hgn.specs.Meaning.{literals, nodeOf};
 ghost use Rattle.hgn.specs.State.{allHold, formulaHolds, relevant};
-ghost use Rattle.formulas.specs.Spanned.{spanRows};
+ghost use Rattle.spans.specs.Index.{spanRows};
 
 // The needs among these rows hold.
 pub fn needs_hold<'a>(atoms: &[bool; 256], shop: &'a [u16], order: &'a [u16], rows: Span) -> bool

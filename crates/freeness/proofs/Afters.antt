@@ -16,7 +16,7 @@ use Rattle.hgn.specs.Network as Network
 use Rattle.hgn.specs.Network.{sameOrigin, isParent, comesAfter, free}
 use Rattle.hgn.proofs.Tests.{among-true, true-among, below-lt, lt-below, not-true-false}
 use Rattle.network.specs.Entries.{orderOrigin, originOf, sameName, noEntry, waitingOf}
-use Rattle.formulas.specs.Spanned.{spanRows}
+use Rattle.spans.specs.Index.{spanRows}
 use Rattle.network.specs.declared.waiting.Entry.{Entry}
 
 -- The number stands in the 11 rows of these tags and values.

@@ -12,7 +12,7 @@ ghost use lib.Dec.{eqb};
 ghost use Rattle.hgn.specs.Lists.{among};
 ghost use Rattle.hgn.specs.Rows.{row, valuesOf};
 ghost use Rattle.hgn.specs.Network.{comesAfter, free, anyFree};
-ghost use Rattle.formulas.specs.Spanned.{spanRows};
+ghost use Rattle.spans.specs.Index.{spanRows};
 ghost use Rattle.network.specs.Entries.{waitingOf, listOf, entryAt};
 ghost use Rattle.freeness.specs.Seeing.{Sees};
 

@@ -10,14 +10,13 @@ use Rattle.hgn.specs.Network.{Waiting}
 use Rattle.hgn.specs.Run.{act, use-method, actionAt, methodAt, Problem, Rules}
 use Rattle.hgn.specs.Shop.{domain}
 use Rattle.hgn.proofs.Tests.{not-true-false, false-not-true, true-any, mem-at, at-lt, at-getD}
-use Rattle.spans.specs.declared.index.Span.{Span}
 use Rattle.reading.specs.declared.position.Sheet.the-variants as Of
-use Rattle.network.specs.Entering.{Bounds, Walk}
-use Rattle.network.proofs.Entered.{nodeAt}
-use Rattle.network.proofs.NodeWalks.{ahead}
+use Rattle.spans.specs.Tables.{Bounds, Walk, nodeAt, MethodAt}
+use Rattle.spans.specs.declared.operators.MethodRows.{MethodRows}
+use Rattle.spans.proofs.NodeWalks.{ahead}
 use Rattle.pruning.specs.Needed.{Needed, OnlyMethod, InEvery}
 use Rattle.pruning.proofs.Needed.{needed-by-node, needed-by-relevance}
-use Rattle.needed.specs.Gathered.{NodesAt, WantedFormula}
+use Rattle.needed.specs.Gathered.{WantedFormula}
 
 module _ (r : Rules) (P : Problem) where
   pub node-wanted : (m : ℕ) (v : Node) → Needed r P (use-method m) → List·Memᴰ v (methodAt (r .domain) m .nodes) → WantedFormula (v .formula) r P
@@ -38,7 +37,7 @@ pub record NodesLeft (shop order table : List ℕ) (m e row : ℕ) : Type 0 wher
   pub are : (b : Bounds) → List·Memᴰ b rest → List·Memᴰ (nodeAt shop order Of.Shop b) (methodAt (domain shop) m .nodes)
 
 module _ {shop order table : List ℕ} {m : ℕ} where
-  pub nodes-all : {r : Span} → NodesAt shop order table m r → NodesLeft shop order table m (r .to) (r .from)
+  pub nodes-all : {r : MethodRows} → MethodAt shop order table m r → NodesLeft shop order table m (r .end .0) (r .first .0)
   nodes-all a = record {
     rest = a .bs;
     walk = a .walk;

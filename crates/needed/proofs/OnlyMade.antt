@@ -10,19 +10,18 @@ use lib.ListN.{length, getD, set, length-set}
 use lib.Seq.{getD-set-same, getD-set-other, set-out}
 use borrow.Author.Tests.{ne-eqb, eqb-true, eqb-false}
 use Rattle.hgn.specs.Rows.{Row, row}
-use Rattle.hgn.specs.Meaning.{Literal, Domain, literals}
+use Rattle.hgn.specs.Meaning.{Literal, Domain, literals, actionOf}
 use Rattle.hgn.specs.State.{contains}
 use Rattle.hgn.specs.Run.{actionAt}
 use Rattle.hgn.specs.Shop.{domain, actionCount}
 use Rattle.hgn.proofs.Tests.{contains-iff}
 use Rattle.hgn.proofs.Checked.{shop-actions, shop-counts}
-use Rattle.spans.specs.Index.{tagsOf, valuesOf}
+use Rattle.spans.specs.Index.{tagsOf, valuesOf, spanRows}
 use Rattle.spans.specs.declared.index.Span.{Span}
-use Rattle.formulas.specs.Spanned.{spanRows}
-use Rattle.network.specs.Tables.{Indexed}
+use Rattle.spans.specs.Tables.{Indexed}
 use Rattle.formulas.proofs.ByRow.{true-row, false-row, no-row, first-row}
-use Rattle.network.proofs.Tables.{shop-passes}
-use Rattle.needed.specs.Tables.{indexOf, OnlyMakers, many, marked, actionSpan}
+use Rattle.spans.proofs.Tables.{shop-passes}
+use Rattle.needed.specs.Tables.{indexOf, OnlyMakers, many, marked}
 use Rattle.needed.proofs.Effects.{effects-are}
 
 module _ {atom : ℕ} {sign : Bool} where
@@ -181,16 +180,16 @@ module _ (d : Domain) where
       only = λ l i s p h c few. made-here l i s p h c few (eqb i (n + 1)) refl;
     })
 
-module _ {shop order endTable startTable : List ℕ} (ix : Indexed shop order endTable startTable) {n : ℕ} {table : List ℕ}
+module _ {shop order tables : List ℕ} (ix : Indexed shop order tables) {n : ℕ} {table : List ℕ}
     (m : MadeTo (domain shop) n table) where
-  -- The next action, by the rows that the table of starts tells.
-  pub makers-next : n < actionCount shop → {rows : Span} → rows ≡ actionSpan startTable (n + 1) → {ts vs : List ℕ} → ts ≡ tagsOf rows shop order → vs ≡ valuesOf rows shop order
+  -- The next action, by its rows.
+  pub makers-next : n < actionCount shop → (rows : Span) → actionAt (domain shop) (n + 1) ≡ actionOf (spanRows shop order rows) → {ts vs : List ℕ} → ts ≡ tagsOf rows shop order → vs ≡ valuesOf rows shop order
       → {r : List ℕ} → r ≡ marked (n + 1) (literals 5 6 (zipWith row ts vs)) table → MadeTo (domain shop) (n + 1) r
   unfolding spanRows
-  makers-next h t a b e =
+  makers-next h rows is a b e =
       made-more (domain shop) m
       (e ∙ ap₂ (λ (x y : List ℕ). marked (n + 1) (literals 5 6 (zipWith row x y)) table) a b
-      ∙ ap (λ (ls : List Literal). marked (n + 1) ls table) (effects-are ix (omega arith) (omega arith) t))
+      ∙ ap (λ (ls : List Literal). marked (n + 1) ls table) (effects-are shop order (n + 1) rows is))
 
   pub makers-all : actionCount shop ≤ n → OnlyMakers (domain shop) table
   makers-all h l s p q j a b c =

@@ -9,24 +9,22 @@ use lib.Dec.{eqb}
 use lib.ListN.{getD}
 use borrow.Author.Tests.{eqb-true, eqb-false}
 use Rattle.hgn.specs.Lists.{any}
-use Rattle.hgn.specs.Meaning.{Literal, Node, noNode, literals}
+use Rattle.hgn.specs.Meaning.{Literal, Node, noNode, literals, actionOf}
 use Rattle.hgn.specs.State.{relevant}
-use Rattle.hgn.specs.Run.{methodAt}
-use Rattle.hgn.specs.Shop.{domain, actionCount, methodCount}
+use Rattle.hgn.specs.Run.{methodAt, actionAt}
+use Rattle.hgn.specs.Shop.{domain, methodCount}
 use Rattle.hgn.specs.Replay.{rulesOf}
 use Rattle.hgn.proofs.Tests.{true-any, at-mem, at-of-lt, false-not-true}
 use Rattle.hgn.proofs.Checked.{shop-counts}
 use Rattle.spans.specs.declared.index.Span.{Span}
 use Rattle.reading.specs.declared.position.Sheet.the-variants as Of
-use Rattle.formulas.specs.Spanned.{spanRows}
-use Rattle.network.specs.Entering.{Bounds, Walk}
-use Rattle.network.specs.Tables.{Indexed}
-use Rattle.network.proofs.NodeWalks.{ahead, at-end, walk-same}
-use Rattle.network.proofs.Entered.{nodeAt}
-use Rattle.network.proofs.Tables.{shop-passes}
-use Rattle.network.proofs.Uses.{MethodAt}
+use Rattle.spans.specs.Index.{spanRows}
+use Rattle.spans.specs.Tables.{Bounds, Walk, Indexed, nodeAt, MethodAt}
+use Rattle.spans.proofs.NodeWalks.{ahead, at-end, walk-same}
+use Rattle.spans.proofs.Tables.{shop-passes}
 use Rattle.pruning.specs.Needed.{OnlyMethod, nodeIn}
-use Rattle.needed.specs.Tables.{actionSpan, boundRelevant}
+use Rattle.needed.specs.Tables.{boundRelevant}
+use Rattle.spans.specs.declared.operators.MethodRows.{MethodRows}
 use Rattle.needed.proofs.Effects.{effects-are}
 
 any-map : {A B : Type 0} (test : B → Bool) (f : A → B) (xs : List A) → any (λ x. test (f x)) xs ≡ any test (map f xs)
@@ -96,14 +94,13 @@ abbrev pub hasNode : List ℕ → List ℕ → Span → ℕ → Bool
 hasNode shop order rows j = any (λ n. relevant (literals 5 6 (spanRows shop order rows)) (n .formula)) (methodAt (domain shop) j .nodes)
 
 -- What is told of a method's nodes along the walk is told of the method.
-pub method-told : {shop order table : List ℕ} {m from to first : ℕ} (a : MethodAt shop order table m from to first) (rows : Span) {r : Bool}
+pub method-told : {shop order table : List ℕ} {m : ℕ} {at : MethodRows} (a : MethodAt shop order table m at) (rows : Span) {r : Bool}
     → r ≡ any (boundRelevant shop order rows) (a .bs) → r ≡ hasNode shop order rows m
 method-told {shop} {order} a rows p =
     p ∙ any-map (λ (n : Node). relevant (literals 5 6 (spanRows shop order rows)) (n .formula)) (nodeAt shop order Of.Shop) (a .bs)
     ∙ ap (any (λ (n : Node). relevant (literals 5 6 (spanRows shop order rows)) (n .formula))) (a .nodes)
 
-module _ {shop order endTable startTable : List ℕ} (ix : Indexed shop order endTable startTable) {k : ℕ} (h : 1 ≤ k) (m : k ≤ actionCount shop)
-    {rows : Span} (t : rows ≡ actionSpan startTable k) where
+module _ {shop order table : List ℕ} (ix : Indexed shop order table) (k : ℕ) (rows : Span) (is : actionAt (domain shop) k ≡ actionOf (spanRows shop order rows)) where
   -- All methods are asked.
   pub method-alone : {n found : ℕ} → FoundTo (hasNode shop order rows) n found → n ≡ methodCount shop → 1 ≤ found
       → (found ≤ methodCount shop) × OnlyMethod (rulesOf shop) k (found - 1)
@@ -113,6 +110,6 @@ module _ {shop order endTable startTable : List ℕ} (ix : Indexed shop order en
         let nodes = methodAt (domain shop) j .nodes in
         let z = f .only j (omega (arith, shop-counts shop (shop-passes ix) .1))
         (true-any (λ (x : Node). relevant (literals 5 6 (spanRows shop order rows)) (x .formula)) nodes (at-mem (at-of-lt nodes i noNode b))
-        (ap (λ (ls : List Literal). relevant ls (nodeIn (domain shop) j i .formula)) (effects-are ix h m t) ∙ c)) in
+        (ap (λ (ls : List Literal). relevant ls (nodeIn (domain shop) j i .formula)) (effects-are shop order k rows is) ∙ c)) in
         omega arith),
   )

@@ -2,7 +2,6 @@
 use Prim.Native.Nat.{ℕ, zero, suc, _+_, _-_, _≤_, _<_}
 use native.Mathlib.Omega.{arith}
 use native.Mathlib.Nat.{not-suc-le-zero}
-use native.Mathlib.Numerals.{add-one}
 use mathlib.Core.Path.{_≡_, refl, sym, ap, _∙_, subst}
 use mathlib.Core.Bool.{Bool, true, false, cond, not}
 use mathlib.Core.List.{List, [], _∷_, map, zipWith, List·Memᴰ, List·Memᴰ·head, List·Memᴰ·eq-of-singleton, Memᴰ·append-left, Memᴰ·append-right, Memᴰ·map}
@@ -13,29 +12,28 @@ use borrow.Author.Tests.{eq-eqb, ne-eqb, ltb-true, ltb-false}
 use Rattle.hgn.specs.Lists.{upTo, parts}
 use Rattle.hgn.specs.Rows.{Row, row, has}
 use Rattle.hgn.specs.Tag as Tag
-use Rattle.hgn.specs.Meaning.{Literal, Formula, Action, Method, literals, nodeOf, actionOf, methodOf}
+use Rattle.hgn.specs.Meaning.{Literal, Formula, Action, Method, literals, nodeOf, actionOf, methodOf, opens}
 use Rattle.hgn.specs.State.{State, contains}
 use Rattle.hgn.specs.Network.{Waiting}
-use Rattle.hgn.specs.Run.{Move, act, use-method, Problem, Rules}
-use Rattle.hgn.specs.Shop.{domain, actionCount, methodCount}
+use Rattle.hgn.specs.Run.{Move, noAction, act, use-method, Problem, Rules}
+use Rattle.hgn.specs.Shop.{domain, actionCount, methodCount, shopRows}
 use Rattle.hgn.specs.Replay.{rulesOf}
 use Rattle.hgn.proofs.Tests.{contains-iff, false-not-true, at-mem, at-of-lt}
 use Rattle.hgn.proofs.Checked.{shop-counts}
 use Rattle.reading.specs.declared.position.Sheet.the-variants as Of
-use Rattle.spans.proofs.Indexed.{method-span}
-use Rattle.formulas.specs.Spanned.{spanRows}
+use Rattle.spans.proofs.Indexed.{method-span, blocks-count, action-span}
+use Rattle.spans.specs.Index.{spanRows, tagsOf, valuesOf, span}
 use Rattle.network.specs.Entries.{waitingOf, listOf, entriesOf}
-use Rattle.network.specs.Tables.{Indexed}
-use Rattle.spans.specs.Index.{tagsOf, valuesOf}
+use Rattle.spans.specs.Tables.{Indexed}
 use Rattle.spans.specs.declared.index.Span.{Span}
 use Rattle.network.specs.declared.waiting.Entry.{Entry}
 use Rattle.network.specs.declared.waiting.Waiting as Code
 use Rattle.network.proofs.Places.{entry-inside}
 use Rattle.formulas.proofs.ByRow.{first-row}
-use Rattle.network.proofs.Tables.{shop-passes}
-use Rattle.steps.proofs.Actions.{block-rows, action-rows}
+use Rattle.spans.proofs.Tables.{shop-passes}
 use Rattle.pruning.specs.Needed.{Needed, needsOf}
 use Rattle.pruning.proofs.Needed.{needed-by-goal, needed-by-need}
+use Rattle.spans.proofs.Spans.{block-span, bounds}
 use Rattle.needed.specs.Gathered.{problemAt, moveOfBlock, WantedAll, WantedFormula}
 
 -- The literal of a row.
@@ -148,27 +146,31 @@ unfolding waitingOf
 entry-wanted r s shop order w i z b k = goal-wanted r (problemAt shop order s w) _ (entry-waits shop order w i z b k)
 
 -- The needs of a move stand in the rows of its block.
-module _ {shop order endTable startTable : List ℕ} (ix : Indexed shop order endTable startTable) (b : ℕ) (h : b < actionCount shop + methodCount shop) where
+module _ {shop order table : List ℕ} (ix : Indexed shop order table) (b : ℕ) (h : b < actionCount shop + methodCount shop) where
   counts : (length (domain shop .actions) ≡ actionCount shop) × (length (domain shop .methods) ≡ methodCount shop)
   counts = shop-counts shop (shop-passes ix)
 
-  pub block-needs : needsOf (domain shop) (moveOfBlock (domain shop) b)
-      ≡ literals 3 4 (spanRows shop order (record { sheet = Of.Shop; from = getD startTable b 0; to = getD startTable (suc b) 0 }))
+  block : getD (parts opens (shopRows shop)) b [] ≡ span (shopRows shop) (getD (bounds (shopRows shop)) b 0) (getD (bounds (shopRows shop)) (suc b) 0)
+  block = block-span (shopRows shop) b (omega (arith, blocks-count shop (shop-passes ix)))
+
+  block-needs : needsOf (domain shop) (moveOfBlock (domain shop) b) ≡ literals Tag.needsTrue Tag.needsFalse (getD (parts opens (shopRows shop)) b [])
   unfolding moveOfBlock actionOf methodOf
   block-needs = go (ltb b (length (domain shop .actions))) refl
     where
       go : (y : Bool) → ltb b (length (domain shop .actions)) ≡ y
           → needsOf (domain shop) (cond y (act (suc b)) (use-method (b - length (domain shop .actions))))
-          ≡ literals 3 4 (spanRows shop order (record { sheet = Of.Shop; from = getD startTable b 0; to = getD startTable (suc b) 0 }))
+          ≡ literals Tag.needsTrue Tag.needsFalse (getD (parts opens (shopRows shop)) b [])
       go true y =
           let z : suc b - 1 ≡ b = omega arith in
-          ap (λ (x : Action). x .needs) (action-rows ix (suc b) (omega arith) (omega (arith, ltb-true b (length (domain shop .actions)) y, counts .0)))
-          ∙ ap (λ (k : ℕ). literals 3 4 (spanRows shop order (record { sheet = Of.Shop; from = getD startTable k 0; to = getD startTable (suc b) 0 }))) z
+          ap (λ (k : ℕ). getD (domain shop .actions) k noAction .needs) z
+          ∙ ap (λ (x : Action). x .needs) (action-span shop (shop-passes ix) b (omega (arith, ltb-true b (length (domain shop .actions)) y, counts .0)))
+          ∙ ap (literals Tag.needsTrue Tag.needsFalse) (sym block)
       go false y =
           let z : actionCount shop + (b - length (domain shop .actions)) ≡ b = omega (arith, ltb-false b (length (domain shop .actions)) y, counts .0) in
           ap (λ (x : Method). x .needs) (method-span shop (shop-passes ix) (b - length (domain shop .actions)) (omega (arith, ltb-false b (length (domain shop .actions)) y, counts .0)))
-          ∙ rw z (ap (literals 3 4) (sym (block-rows ix b h)))
+          ∙ rw z (ap (literals Tag.needsTrue Tag.needsFalse) (sym block))
 
-  pub block-wanted : (P : Problem) → Needed (rulesOf shop) P (moveOfBlock (domain shop) b)
-      → WantedAll (literals 3 4 (spanRows shop order (record { sheet = Of.Shop; from = getD startTable b 0; to = getD startTable (b + 1) 0 }))) (rulesOf shop) P
-  block-wanted P n = rw add-one (subst (λ (ls : List Literal). WantedAll ls (rulesOf shop) P) block-needs (needs-wanted (rulesOf shop) P _ n))
+  pub block-wanted : (P : Problem) (rows : Span) → spanRows shop order rows ≡ getD (parts opens (shopRows shop)) b []
+      → Needed (rulesOf shop) P (moveOfBlock (domain shop) b) → WantedAll (literals Tag.needsTrue Tag.needsFalse (spanRows shop order rows)) (rulesOf shop) P
+  block-wanted P rows e n =
+      subst (λ (ls : List Literal). WantedAll ls (rulesOf shop) P) (block-needs ∙ ap (literals Tag.needsTrue Tag.needsFalse) (sym e)) (needs-wanted (rulesOf shop) P _ n)

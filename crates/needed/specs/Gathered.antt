@@ -5,16 +5,13 @@ use mathlib.Core.Bool.{true, false, cond}
 use mathlib.Core.List.{List, map, List·Memᴰ}
 use lib.Dec.{ltb}
 use lib.ListN.{length, take, getD}
-use Rattle.hgn.specs.Meaning.{Literal, Formula, Domain, nodeOf}
+use Rattle.hgn.specs.Meaning.{Literal, Formula, Domain}
 use Rattle.hgn.specs.Shop.{domain}
 use Rattle.hgn.specs.State.{State, literalHolds}
-use Rattle.hgn.specs.Run.{Move, act, use-method, methodAt, Problem, Rules}
+use Rattle.hgn.specs.Run.{Move, act, use-method, Problem, Rules}
 use Rattle.hgn.specs.Replay.{rulesOf}
-use Rattle.spans.specs.declared.index.Span.{Span}
 use Rattle.reading.specs.declared.position.Sheet.the-variants as Of
-use Rattle.formulas.specs.Spanned.{spanRows}
 use Rattle.network.specs.Entries.{listOf}
-use Rattle.network.specs.Entering.{Bounds, Walk}
 use Rattle.network.specs.declared.waiting.Waiting.{Waiting}
 use Rattle.pruning.specs.Needed.{Needed, OnlyMaker, InEvery, weight, weights, Different}
 use Rattle.needed.specs.Tables.{OnlyMakers}
@@ -67,13 +64,6 @@ WithBlock block heavy g h = (shop : List ℕ) (P : Problem) → block < length (
 abbrev pub WithMakers : (Rules → Problem → Type 0) → State → List ℕ → ℕ → Gathered → Gathered → Type 0
 WithMakers known s table actions g h = (shop : List ℕ) (P : Problem) → P .state ≡ s → length (domain shop .actions) ≡ actions
     → OnlyMakers (domain shop) table → known (rulesOf shop) P → Holds (rulesOf shop) P g → Holds (rulesOf shop) P h
-
--- The rows of method `m`'s nodes, walked along the table of ends.
-pub record NodesAt (shop order table : List ℕ) (m : ℕ) (r : Span) : Type 0 where
-  pub bs : List Bounds
-  pub walk : Walk table (r .to) (r .from) bs
-  pub nodes : map (λ b. nodeOf (spanRows shop order (record { sheet = Of.Shop; from = b .from; to = b .to }))) bs ≡ methodAt (domain shop) m .nodes
-  pub few : length bs ≤ 63
 
 -- What may be added because a move is needed.
 abbrev pub Onward : Rules → Problem → Move → Gathered → Gathered → Type 0

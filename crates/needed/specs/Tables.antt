@@ -1,5 +1,5 @@
 -- The table of only makers. Not to be believed: what is proved of the bound is a lemma of `pruning`.
-use Prim.Native.Nat.{ℕ, _+_, _*_, _-_, _≤_, _<_}
+use Prim.Native.Nat.{ℕ, _+_, _*_, _≤_, _<_}
 use mathlib.Core.Bool.{Bool, cond}
 use mathlib.Core.List.{List, [], _∷_}
 use lib.Dec.{eqb}
@@ -8,8 +8,8 @@ use Rattle.hgn.specs.Meaning.{Literal, Domain, literals, nodeOf}
 use Rattle.hgn.specs.State.{mostAtoms, relevant}
 use Rattle.spans.specs.declared.index.Span.{Span}
 use Rattle.reading.specs.declared.position.Sheet.the-variants as Of
-use Rattle.formulas.specs.Spanned.{spanRows}
-use Rattle.network.specs.Entering.{Bounds}
+use Rattle.spans.specs.Index.{spanRows, spanOf}
+use Rattle.spans.specs.Tables.{Bounds}
 use Rattle.pruning.specs.Needed.{OnlyMaker}
 
 -- Where the table has a literal: two words an atom, for false and for true.
@@ -31,12 +31,8 @@ marked k [] table = table
 marked k (l ∷ ls) table =
     marked k ls (set table (indexOf (l .atom) (l .sign)) (cond (eqb (getD table (indexOf (l .atom) (l .sign)) 0) 0) k many))
 
--- The rows of action `k`, by the table of starts.
-abbrev pub actionSpan : List ℕ → ℕ → Span
-actionSpan starts k = record { sheet = Of.Shop; from = getD starts (k - 1) 0; to = getD starts k 0 }
-
 -- The effects among these rows are relevant to the node with those.
 abbrev pub boundRelevant : List ℕ → List ℕ → Span → Bounds → Bool
 boundRelevant shop order effects b =
     relevant (literals 5 6 (spanRows shop order effects))
-    (nodeOf (spanRows shop order (record { sheet = Of.Shop; from = b .from; to = b .to })) .formula)
+    (nodeOf (spanRows shop order (spanOf Of.Shop (b .from) (b .to))) .formula)

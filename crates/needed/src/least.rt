@@ -2,14 +2,14 @@
 use crate::makers;
 use formulas::part;
 use formulas::state;
-use network::enter;
 use network::waiting::Waiting;
 use reading::position::Atom;
-use reading::position::Sheet;
 use reading::tag;
+use scan::rows::Row;
 use scan::rows::word;
 use spans::index;
 use spans::index::Span;
+use spans::operators;
 use steps::problem::Problem;
 ghost use mathlib.Core.Path.{_≡_};
 ghost use mathlib.Core.Bool.{true};
@@ -22,12 +22,12 @@ ghost use Rattle.hgn.specs.State.{State};
 ghost use Rattle.hgn.specs.Run as Run;
 ghost use Rattle.hgn.specs.Shop.{domain, actionCount, methodCount};
 ghost use Rattle.hgn.specs.Replay.{rulesOf};
-ghost use Rattle.formulas.specs.Spanned.{spanRows};
-ghost use Rattle.network.specs.Tables.{Indexed};
+ghost use Rattle.spans.specs.Index.{spanRows};
+ghost use Rattle.spans.specs.Tables.{Indexed};
 ghost use Rattle.steps.specs.Steps.{problemIn};
 ghost use Rattle.pruning.specs.Pruned.{prunedOf};
 ghost use Rattle.needed.specs.Tables.{OnlyMakers};
-ghost use Rattle.needed.specs.Gathered.{problemAt, Holds, moveOfBlock, Wanted, WantedAll, WantedFormula, WithBlock, WithMakers, Onward, OnwardFrom, OfGoals, NodesAt};
+ghost use Rattle.needed.specs.Gathered.{problemAt, Holds, moveOfBlock, Wanted, WantedAll, WantedFormula, WithBlock, WithMakers, Onward, OnwardFrom, OfGoals};
 
 // The needed moves found so far, as blocks: action k is block k - 1, and the methods follow the actions, as in the table of starts.
 pub struct Gathered {
@@ -219,24 +219,16 @@ impl Gathered {
         self,
         shop: &'a [u16],
         order: &'a [u16],
-        ends: &[u16],
-        starts: &[u16],
+        tables: &[u16],
         atoms: &[bool; 256],
         table: [u16; 512],
         block: u16,
     ) -> Gathered
-        requires { ⌜ Indexed (now shop) (now order) (now ends) (now starts) × (block < actionCount (now shop) + methodCount (now shop)) × OnlyMakers (domain (now shop)) table ⌝ }
+        requires { ⌜ Indexed (now shop) (now order) (now tables) × (block < actionCount (now shop) + methodCount (now shop)) × OnlyMakers (domain (now shop)) table ⌝ }
         ensures { λ r. ⌜ OnwardFrom (rulesOf (now (shop .entry))) (now (atoms .entry)) (moveOfBlock (domain (now (shop .entry))) block) self r ⌝ }
     {
         let actions = word(shop, 1);
-        let at = block as usize;
-        let from = starts[at];
-        let to = starts[at + 1];
-        let rows = Span {
-            sheet: Sheet::Shop,
-            from: from,
-            to: to,
-        };
+        let rows = operators::operator_rows(tables, block);
         let tags = index::tags_of(rows, shop, order);
         let values = index::values_of(rows, shop, order);
         self.with_rows(
@@ -255,24 +247,23 @@ impl Gathered {
         self,
         shop: &'a [u16],
         order: &'a [u16],
-        ends: &[u16],
-        starts: &[u16],
+        tables: &[u16],
         waiting: Waiting,
         action: u16,
     ) -> Gathered
-        requires { ⌜ Indexed (now shop) (now order) (now ends) (now starts) × (1 ≤ action) × (action ≤ actionCount (now shop)) × (waiting .count ≤ 64) ⌝ }
+        requires { ⌜ Indexed (now shop) (now order) (now tables) × (1 ≤ action) × (action ≤ actionCount (now shop)) × (waiting .count ≤ 64) ⌝ }
         ensures { λ r. ⌜ ((s : State) → Onward (rulesOf (now (shop .entry))) (problemAt (now (shop .entry)) (now (order .entry)) s waiting) (Run.act action) self r) ⌝ }
     {
-        if makers::wanted_by(shop, order, ends, starts, waiting, action) {
+        if makers::wanted_by(shop, order, tables, waiting, action) {
             return self;
         }
-        let named = makers::only_method(shop, order, ends, starts, action);
+        let named = makers::only_method(shop, order, tables, action);
         if named == 0 {
             return self;
         }
         let method = named - 1;
-        let rows = method_nodes(shop, order, ends, starts, method);
-        let nodes = enter::nodes_between(ends, rows.from, rows.to);
+        let rows = operators::method_rows(shop, tables, method);
+        let nodes = operators::nodes_between(tables, rows.first, rows.end);
         let block = word(shop, 1) + method;
         self.add(block, 1 + nodes.count)
     }
@@ -282,29 +273,26 @@ impl Gathered {
         self,
         shop: &'a [u16],
         order: &'a [u16],
-        ends: &[u16],
-        starts: &[u16],
+        tables: &[u16],
         atoms: &[bool; 256],
         table: [u16; 512],
         method: u16,
     ) -> Gathered
-        requires { ⌜ Indexed (now shop) (now order) (now ends) (now starts) × (method < methodCount (now shop)) × OnlyMakers (domain (now shop)) table ⌝ }
+        requires { ⌜ Indexed (now shop) (now order) (now tables) × (method < methodCount (now shop)) × OnlyMakers (domain (now shop)) table ⌝ }
         ensures { λ r. ⌜ OnwardFrom (rulesOf (now (shop .entry))) (now (atoms .entry)) (Run.use-method method) self r ⌝ }
     {
         let actions = word(shop, 1);
-        let rows = method_nodes(shop, order, ends, starts, method);
-        let end = rows.to;
+        let rows = operators::method_rows(shop, tables, method);
+        let first = rows.first;
+        let end = rows.end;
+        let stop = end.0;
         let mut next = self;
-        let mut row = rows.from;
-        while row < end {
+        let mut row = first.0;
+        while row < stop {
             let from = row;
             let here = row as usize;
-            row = ends[here];
-            let node = Span {
-                sheet: Sheet::Shop,
-                from: from,
-                to: row,
-            };
+            row = tables[here];
+            let node = Span::of_shop(Row(from), Row(row));
             next = next.with_goal(shop, order, atoms, table, actions, node);
         }
         next
@@ -315,24 +303,23 @@ impl Gathered {
         self,
         shop: &'a [u16],
         order: &'a [u16],
-        ends: &[u16],
-        starts: &[u16],
+        tables: &[u16],
         atoms: &[bool; 256],
         table: [u16; 512],
         waiting: Waiting,
         block: u16,
     ) -> Gathered
-        requires { ⌜ Indexed (now shop) (now order) (now ends) (now starts) × (block < actionCount (now shop) + methodCount (now shop))
+        requires { ⌜ Indexed (now shop) (now order) (now tables) × (block < actionCount (now shop) + methodCount (now shop))
             × OnlyMakers (domain (now shop)) table × (waiting .count ≤ 64) ⌝ }
         ensures { λ r. ⌜ Onward (rulesOf (now (shop .entry))) (problemAt (now (shop .entry)) (now (order .entry)) (now (atoms .entry)) waiting)
             (moveOfBlock (domain (now (shop .entry))) block) self r ⌝ }
     {
         let actions = word(shop, 1);
-        let next = self.with_needs(shop, order, ends, starts, atoms, table, block);
+        let next = self.with_needs(shop, order, tables, atoms, table, block);
         if block < actions {
-            return next.with_method(shop, order, ends, starts, waiting, block + 1);
+            return next.with_method(shop, order, tables, waiting, block + 1);
         }
-        next.with_nodes(shop, order, ends, starts, atoms, table, block - actions)
+        next.with_nodes(shop, order, tables, atoms, table, block - actions)
     }
 
     // With what every move of the list brings with it, those that are added on the way too.
@@ -340,13 +327,12 @@ impl Gathered {
         self,
         shop: &'a [u16],
         order: &'a [u16],
-        ends: &[u16],
-        starts: &[u16],
+        tables: &[u16],
         atoms: &[bool; 256],
         table: [u16; 512],
         waiting: Waiting,
     ) -> Gathered
-        requires { ⌜ Indexed (now shop) (now order) (now ends) (now starts) × OnlyMakers (domain (now shop)) table × (waiting .count ≤ 64) ⌝ }
+        requires { ⌜ Indexed (now shop) (now order) (now tables) × OnlyMakers (domain (now shop)) table × (waiting .count ≤ 64) ⌝ }
         requires { ⌜ Holds (rulesOf (now shop)) (problemAt (now shop) (now order) (now atoms) waiting) self ⌝ }
         ensures { λ r. ⌜ Holds (rulesOf (now (shop .entry))) (problemAt (now (shop .entry)) (now (order .entry)) (now (atoms .entry)) waiting) r ⌝ }
     {
@@ -355,32 +341,9 @@ impl Gathered {
         while at < next.count as usize {
             let block = next.blocks[at];
             at += 1;
-            next = next.with_move(shop, order, ends, starts, atoms, table, waiting, block);
+            next = next.with_move(shop, order, tables, atoms, table, waiting, block);
         }
         next
-    }
-}
-
-// The rows of a method's nodes.
-fn method_nodes<'a>(
-    shop: &'a [u16],
-    order: &'a [u16],
-    ends: &[u16],
-    starts: &[u16],
-    method: u16,
-) -> Span
-    requires { ⌜ Indexed (now shop) (now order) (now ends) (now starts) × (method < methodCount (now shop)) ⌝ }
-    ensures { λ r. ⌜ NodesAt (now (shop .entry)) (now (order .entry)) (now (ends .entry)) method r ⌝ }
-{
-    let block = word(shop, 1) as usize + method as usize;
-    let from = starts[block];
-    let end = starts[block + 1];
-    let at = from as usize;
-    let first = ends[at];
-    Span {
-        sheet: Sheet::Shop,
-        from: first,
-        to: end,
     }
 }
 
@@ -415,19 +378,18 @@ fn one_alternative(tags: &[u16], values: &[u16]) -> bool
 pub fn at_least<'a>(
     shop: &'a [u16],
     order: &'a [u16],
-    ends: &[u16],
-    starts: &[u16],
+    tables: &[u16],
     problem: Problem,
 ) -> u16
-    requires { ⌜ Indexed (now shop) (now order) (now ends) (now starts) × (problem .waiting .count ≤ 64) ⌝ }
+    requires { ⌜ Indexed (now shop) (now order) (now tables) × (problem .waiting .count ≤ 64) ⌝ }
     ensures { λ r. ⌜ ((k : ℕ) → k < r → (P₀ : Run.Problem) (y : Run.Step) (n : ℕ)
         → prunedOf k (rulesOf (now (shop .entry))) P₀ y n (problemIn (now (shop .entry)) (now (order .entry)) problem) ≡ none) ⌝ }
 {
     let actions = word(shop, 1);
-    let table = makers::makers(shop, order, ends, starts);
+    let table = makers::makers(shop, order, tables);
     let atoms = problem.atoms;
     let waiting = problem.waiting;
     let goals = Gathered::of_goals(shop, order, &atoms, table, actions, waiting);
-    let all = goals.closed(shop, order, ends, starts, &atoms, table, waiting);
+    let all = goals.closed(shop, order, tables, &atoms, table, waiting);
     waiting.count + all.weight
 }

@@ -3,11 +3,13 @@
 use formulas::part;
 use formulas::parts;
 use network::waiting::Waiting;
-use reading::position::Sheet;
 use reading::tag;
+use scan::rows::Row;
 use scan::rows::word;
 use spans::index;
 use spans::index::Span;
+use spans::operators;
+use spans::operators::MethodRows;
 ghost use mathlib.Core.Path.{_≡_};
 ghost use mathlib.Core.Bool.{cond};
 ghost use mathlib.Core.List.{List, [], _∷_, zipWith};
@@ -22,11 +24,11 @@ ghost use Rattle.hgn.specs.Run.{actionAt, methodAt};
 ghost use Rattle.hgn.specs.Shop.{domain, actionCount, methodCount};
 ghost use Rattle.hgn.specs.Replay.{rulesOf};
 ghost use Rattle.network.specs.Entries.{listOf};
-ghost use Rattle.formulas.specs.Spanned.{spanRows};
-ghost use Rattle.network.specs.Entering.{Bounds, Walk};
-ghost use Rattle.network.specs.Tables.{Indexed};
+ghost use Rattle.spans.specs.Index.{spanRows};
+ghost use Rattle.spans.specs.Tables.{Bounds, Walk};
+ghost use Rattle.spans.specs.Tables.{Indexed};
 ghost use Rattle.pruning.specs.Needed.{OnlyMethod};
-ghost use Rattle.needed.specs.Tables.{indexOf, OnlyMakers, actionSpan, boundRelevant, marked};
+ghost use Rattle.needed.specs.Tables.{indexOf, OnlyMakers, boundRelevant, marked};
 
 // Stands where several actions make a literal: no action has this number.
 pub const MANY: u16 = 65535;
@@ -41,21 +43,6 @@ pub fn index_of(atom: u16, sign: bool) -> usize
         return 2 * at + 1;
     }
     2 * at
-}
-
-// The rows of an action by its number.
-pub fn action_rows(starts: &[u16], action: u16) -> Span
-    requires { ⌜ (1 ≤ action) × (action < length (now starts)) ⌝ }
-    ensures { λ r. ⌜ r ≡ actionSpan (now (starts .entry)) action ⌝ }
-{
-    let at = action as usize;
-    let from = starts[at - 1];
-    let to = starts[at];
-    Span {
-        sheet: Sheet::Shop,
-        from: from,
-        to: to,
-    }
 }
 
 // The action set at a place of the table; `MANY` where another stands there.
@@ -103,8 +90,8 @@ fn with_action(table: [u16; 512], tags: &[u16], values: &[u16], action: u16) -> 
 }
 
 // For each literal the one action that makes it; 0 where none does, `MANY` where several do.
-pub fn makers<'a>(shop: &'a [u16], order: &'a [u16], ends: &[u16], starts: &[u16]) -> [u16; 512]
-    requires { ⌜ Indexed (now shop) (now order) (now ends) (now starts) ⌝ }
+pub fn makers<'a>(shop: &'a [u16], order: &'a [u16], tables: &[u16]) -> [u16; 512]
+    requires { ⌜ Indexed (now shop) (now order) (now tables) ⌝ }
     ensures { λ r. ⌜ OnlyMakers (domain (now (shop .entry))) r ⌝ }
 {
     let count = word(shop, 1);
@@ -112,7 +99,7 @@ pub fn makers<'a>(shop: &'a [u16], order: &'a [u16], ends: &[u16], starts: &[u16
     let mut action: u16 = 0;
     while action < count {
         action += 1;
-        let rows = action_rows(starts, action);
+        let rows = operators::action_rows(tables, action);
         let tags = index::tags_of(rows, shop, order);
         let values = index::values_of(rows, shop, order);
         let more = with_action(table, tags, values, action);
@@ -121,28 +108,27 @@ pub fn makers<'a>(shop: &'a [u16], order: &'a [u16], ends: &[u16], starts: &[u16
     table
 }
 
-// The effects among these rows are relevant to a node from row `first` up to row `end`, along the table of ends.
+// The effects among these rows are relevant to a node of the method with those.
 fn has_node_for<'a>(
     shop: &'a [u16],
     order: &'a [u16],
-    ends: &[u16],
-    first: u16,
-    end: u16,
+    tables: &[u16],
+    method: MethodRows,
     effects: Span,
 ) -> bool
-    requires { ⌜ ((bs : List Bounds) × Walk (now ends) end first bs) ⌝ }
-    ensures { λ r. ⌜ ((bs : List Bounds) → Walk (now (ends .entry)) end first bs → r ≡ any (boundRelevant (now (shop .entry)) (now (order .entry)) effects) bs) ⌝ }
+    requires { ⌜ ((bs : List Bounds) × Walk (now tables) (method .end .0) (method .first .0) bs) ⌝ }
+    ensures { λ r. ⌜ ((bs : List Bounds) → Walk (now (tables .entry)) (method .end .0) (method .first .0) bs
+        → r ≡ any (boundRelevant (now (shop .entry)) (now (order .entry)) effects) bs) ⌝ }
 {
-    let mut row = first;
-    while row < end {
+    let first = method.first;
+    let end = method.end;
+    let stop = end.0;
+    let mut row = first.0;
+    while row < stop {
         let from = row;
         let at = row as usize;
-        row = ends[at];
-        let node = Span {
-            sheet: Sheet::Shop,
-            from: from,
-            to: row,
-        };
+        row = tables[at];
+        let node = Span::of_shop(Row(from), Row(row));
         if parts::helps(
             shop,
             order,
@@ -161,41 +147,35 @@ fn has_node_for<'a>(
 fn method_has<'a>(
     shop: &'a [u16],
     order: &'a [u16],
-    ends: &[u16],
-    starts: &[u16],
+    tables: &[u16],
     effects: Span,
     method: u16,
 ) -> bool
-    requires { ⌜ Indexed (now shop) (now order) (now ends) (now starts) × (method < methodCount (now shop)) ⌝ }
+    requires { ⌜ Indexed (now shop) (now order) (now tables) × (method < methodCount (now shop)) ⌝ }
     ensures { λ r. ⌜ r ≡ any (λ n. relevant (literals 5 6 (spanRows (now (shop .entry)) (now (order .entry)) effects)) (n .formula)) (methodAt (domain (now (shop .entry))) method .nodes) ⌝ }
 {
-    let block = word(shop, 1) as usize + method as usize;
-    let from = starts[block];
-    let end = starts[block + 1];
-    let at = from as usize;
-    let first = ends[at];
-    has_node_for(shop, order, ends, first, end, effects)
+    let rows = operators::method_rows(shop, tables, method);
+    has_node_for(shop, order, tables, rows, effects)
 }
 
 // The method, by its number plus 1, that alone has a node to which this action is relevant; 0 where none or several have.
 pub fn only_method<'a>(
     shop: &'a [u16],
     order: &'a [u16],
-    ends: &[u16],
-    starts: &[u16],
+    tables: &[u16],
     action: u16,
 ) -> u16
-    requires { ⌜ Indexed (now shop) (now order) (now ends) (now starts) × (1 ≤ action) × (action ≤ actionCount (now shop)) ⌝ }
+    requires { ⌜ Indexed (now shop) (now order) (now tables) × (1 ≤ action) × (action ≤ actionCount (now shop)) ⌝ }
     ensures { λ r. ⌜ (1 ≤ r → (r ≤ methodCount (now (shop .entry))) × OnlyMethod (rulesOf (now (shop .entry))) action (r - 1)) ⌝ }
 {
-    let effects = action_rows(starts, action);
+    let effects = operators::action_rows(tables, action);
     let count = word(shop, 2);
     let mut found: u16 = 0;
     let mut method: u16 = 0;
     while method < count {
         let this = method;
         method += 1;
-        if method_has(shop, order, ends, starts, effects, this) {
+        if method_has(shop, order, tables, effects, this) {
             if 0 < found {
                 return 0;
             }
@@ -209,15 +189,14 @@ pub fn only_method<'a>(
 pub fn wanted_by<'a>(
     shop: &'a [u16],
     order: &'a [u16],
-    ends: &[u16],
-    starts: &[u16],
+    tables: &[u16],
     waiting: Waiting,
     action: u16,
 ) -> bool
-    requires { ⌜ Indexed (now shop) (now order) (now ends) (now starts) × (1 ≤ action) × (action ≤ actionCount (now shop)) × (waiting .count ≤ 64) ⌝ }
+    requires { ⌜ Indexed (now shop) (now order) (now tables) × (1 ≤ action) × (action ≤ actionCount (now shop)) × (waiting .count ≤ 64) ⌝ }
     ensures { λ r. ⌜ r ≡ any (λ g. relevant (actionAt (domain (now (shop .entry))) action .effects) (g .formula)) (listOf (now (shop .entry)) (now (order .entry)) waiting) ⌝ }
 {
-    let rows = action_rows(starts, action);
+    let rows = operators::action_rows(tables, action);
     let count = waiting.count as usize;
     let mut i = 0;
     while i < count {

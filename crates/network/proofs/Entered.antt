@@ -7,23 +7,19 @@ use mathlib.Core.Logic.{_≢_}
 use mathlib.Core.List.{List, [], _∷_, map}
 use mathlib.Core.Option.{none, some}
 use borrow.Author.Tests.{eq-eqb, ne-eqb}
-use Rattle.hgn.specs.Meaning.{Node, nodeOf, lastAfterAll}
+use Rattle.hgn.specs.Meaning.{nodeOf, lastAfterAll}
 use Rattle.hgn.specs.Network as Network
 use Rattle.hgn.specs.Network.{enter}
 use Rattle.reading.specs.declared.position.Sheet.{Sheet}
 use Rattle.network.specs.Entries.{orderOrigin, nameOf, waitingOf}
-use Rattle.formulas.specs.Spanned.{spanRows}
-use Rattle.network.specs.Entering.{Bounds, Walk, stop, next, entriesFrom}
+use Rattle.spans.specs.Tables.{Bounds, Walk, stop, next, nodeAt}
+use Rattle.network.specs.Entering.{entriesFrom}
 use Rattle.network.specs.declared.waiting.Name.{Name}
 
 module _ (shop order : List ℕ) (sheet : Sheet) where
-  -- The node whose rows these bounds are.
-  abbrev pub nodeAt : Bounds → Node
-  nodeAt b = nodeOf (spanRows shop order (record { sheet = sheet; from = b .from; to = b .to }))
-
   -- The nodes of a method used at step `n`.
   pub method-enters : {table : List ℕ} {e row : ℕ} {bs : List Bounds} (n : ℕ) (parent : Name) (j : ℕ) → n ≢ orderOrigin → Walk table e row bs
-      → map (waitingOf shop order) (entriesFrom sheet n parent true e j bs) ≡ enter (Network.step n) (some (nameOf parent)) j (lastAfterAll j (map nodeAt bs))
+      → map (waitingOf shop order) (entriesFrom sheet n parent true e j bs) ≡ enter (Network.step n) (some (nameOf parent)) j (lastAfterAll j (map (nodeAt shop order sheet) bs))
   unfolding entriesFrom enter lastAfterAll waitingOf nodeOf
   method-enters n parent j z stop = refl
   method-enters {e = e} n parent j z (next {to = to} a b h q stop) = rw (ne-eqb n orderOrigin z, eq-eqb e e refl)
@@ -32,7 +28,7 @@ module _ (shop order : List ℕ) (sheet : Sheet) where
 
   -- The goals of an order.
   pub order-enters : (e : ℕ) (bs : List Bounds) (parent : Name) (j : ℕ)
-      → map (waitingOf shop order) (entriesFrom sheet orderOrigin parent false e j bs) ≡ enter Network.order none j (map nodeAt bs)
+      → map (waitingOf shop order) (entriesFrom sheet orderOrigin parent false e j bs) ≡ enter Network.order none j (map (nodeAt shop order sheet) bs)
   unfolding entriesFrom enter waitingOf nodeOf
   order-enters e [] parent j = refl
   order-enters e (b ∷ bs) parent j = ap₂ {C = List Network.Waiting} (λ x l. x ∷ l) refl (order-enters e bs parent (suc j))

@@ -10,10 +10,11 @@ use lib.ListN.{length, getD, set, take, drop, length-append, length-set, take-ap
 use lib.Seq.{take-suc-set, drop-set-lt}
 use Rattle.reading.specs.declared.position.Sheet.{Sheet}
 use Rattle.network.specs.Entries.{Opened}
-use Rattle.network.specs.Entering.{Bounds, Walk, entryOf, entriesFrom}
+use Rattle.spans.specs.Tables.{Bounds, Walk}
+use Rattle.network.specs.Entering.{entryOf, entriesFrom}
 use Rattle.network.specs.declared.waiting.Name.{Name}
 use Rattle.network.specs.declared.waiting.Entry.{Entry}
-use Rattle.network.proofs.NodeWalks.{ahead, at-end, walk-same}
+use Rattle.spans.proofs.NodeWalks.{ahead, at-end, walk-same}
 
 module _ (sheet : Sheet) (origin : ℕ) (parent : Name) (method : Bool) (e : ℕ) where
   pub entries-more : (j : ℕ) (bs : List Bounds) (b : Bounds)

@@ -9,7 +9,7 @@ use Rattle.hgn.specs.Meaning.{nodeOf}
 use Rattle.hgn.specs.Network as Network
 use Rattle.hgn.specs.Network.{goalAt, noGoal, released}
 use Rattle.hgn.proofs.Embedding.{take-map, drop-map}
-use Rattle.formulas.specs.Spanned.{spanRows}
+use Rattle.spans.specs.Index.{spanRows}
 use Rattle.network.specs.Entries.{waitingOf, noEntry, entriesOf, listOf, without}
 use Rattle.network.specs.declared.waiting.Entry.{Entry}
 use Rattle.network.specs.declared.waiting.Waiting.{Waiting}

@@ -1,10 +1,6 @@
 -- Laws of the definitions in the shape that the code asks for.
 pub mod Places
 pub mod Goals
-pub mod NodeWalks
 pub mod Entered
 pub mod Filling
-pub mod Tables
-pub mod NodeParts
-pub mod Uses
 pub mod Decomposing

@@ -11,7 +11,7 @@ use Rattle.hgn.specs.Rows as Rows
 use Rattle.hgn.specs.Tag as Tag
 use Rattle.hgn.specs.Meaning.{nodeOf}
 use Rattle.hgn.specs.Network as Network
-use Rattle.formulas.specs.Spanned.{spanRows}
+use Rattle.spans.specs.Index.{spanOf, spanRows}
 use Rattle.reading.specs.declared.position.Sheet.the-variants as Of
 use Rattle.network.specs.declared.waiting.Name.{Name}
 use Rattle.network.specs.declared.waiting.Entry.{Entry}
@@ -42,7 +42,7 @@ waitingOf shop order e = record {
 -- No goal.
 abbrev pub noEntry : Entry
 noEntry = record {
-  rows = record { sheet = Of.Order; from = 0; to = 0 };
+  rows = spanOf Of.Order 0 0;
   name = record { origin = orderOrigin; number = 0 };
   parent = record { origin = orderOrigin; number = 0 };
   last = false;

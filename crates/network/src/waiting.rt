@@ -1,10 +1,12 @@
 // The waiting list: goals in the order of their places. Document 01, "How a derivation runs".
 use reading::position::Sheet;
+use scan::rows::Row;
 use spans::index::Span;
 ghost use mathlib.Core.Path.{_≡_};
 ghost use mathlib.Core.List.{[]};
 ghost use Prim.Native.Nat.{_+_, _<_, _≤_};
 ghost use lib.ListN.{getD};
+ghost use Rattle.hgn.specs.Network.{mostWaiting};
 ghost use Rattle.network.specs.Entries.{entriesOf, sameName, without, noEntry, Opened};
 
 // A place in the waiting list, from 0.
@@ -49,8 +51,8 @@ impl Entry {
         Entry {
             rows: Span {
                 sheet: Sheet::Order,
-                from: 0,
-                to: 0,
+                from: Row(0),
+                to: Row(0),
             },
             name: Name {
                 origin: Waiting::ORDER,
@@ -82,7 +84,7 @@ impl Waiting {
 
     // The goal at a place; no goal past the last.
     pub fn goal(self, place: Place) -> Entry
-        requires { ⌜ self .count ≤ 64 ⌝ }
+        requires { ⌜ self .count ≤ mostWaiting ⌝ }
         ensures { λ r. ⌜ r ≡ getD (entriesOf self) (place .0) noEntry ⌝ }
     {
         let at = place.0 as usize;
@@ -94,7 +96,7 @@ impl Waiting {
 
     // The goal at a place leaves the list; the goals behind it move down one place.
     pub fn released(mut self, place: Place) -> Waiting
-        requires { ⌜ (place .0 < self .count) × (self .count ≤ 64) ⌝ }
+        requires { ⌜ (place .0 < self .count) × (self .count ≤ mostWaiting) ⌝ }
         ensures { λ r. ⌜ (entriesOf r ≡ without (entriesOf self) (place .0)) × (r .count + 1 ≡ self .count) ⌝ }
     {
         let last = self.count as usize - 1;
@@ -111,7 +113,7 @@ impl Waiting {
     // Room for `more` goals directly before a place: the goals from there on move up, the last first. What stands in the room is not
     // said.
     pub fn opened(mut self, place: Place, more: u16) -> Waiting
-        requires { ⌜ (place .0 ≤ self .count) × (self .count + more ≤ 64) ⌝ }
+        requires { ⌜ (place .0 ≤ self .count) × (self .count + more ≤ mostWaiting) ⌝ }
         ensures { λ r. ⌜ Opened (entriesOf self) (place .0) more (entriesOf r) ⌝ }
         ensures { λ r. ⌜ r .count ≡ self .count + more ⌝ }
     {

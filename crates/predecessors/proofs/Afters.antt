@@ -11,7 +11,7 @@ use Rattle.hgn.specs.Lists.{below}
 use Rattle.hgn.specs.Rows.{Row, row, valuesOf}
 use Rattle.hgn.specs.Network.{isParent}
 use Rattle.network.specs.Entries.{orderOrigin, nameOf, waitingOf, sameName}
-use Rattle.formulas.specs.Spanned.{spanRows}
+use Rattle.spans.specs.Index.{spanRows}
 use Rattle.network.specs.declared.waiting.Entry.{Entry}
 use Rattle.network.specs.declared.waiting.Name.{Name}
 use Rattle.freeness.proofs.Afters.{same-origin}

@@ -24,7 +24,7 @@ use Rattle.hgn.proofs.Waiting.{length-enter, goal-mem}
 use Rattle.hgn.proofs.Checked.{Numbered, shop-of-order, shop-counts, order-numbered, method-numbered}
 use Rattle.hgn.proofs.Names.{Named, Distinct}
 use Rattle.hgn.proofs.Reached.{Ordered}
-use Rattle.network.specs.Tables.{Indexed}
+use Rattle.spans.specs.Tables.{Indexed}
 use Rattle.network.proofs.Places.{behind-gap}
 use Rattle.predecessors.specs.Pending.{listed, pending, Counted}
 use Rattle.predecessors.specs.Kept.{Filled}
@@ -174,7 +174,7 @@ module _ (w : List Waiting) (p n : ℕ) (ns : List Node) (h : p < length w) wher
             ∙ ap (pending grown) (sym (ap (goalAt grown) (sym m) ∙ behind-new (k - length ns) (omega arith)))
 
 -- A method's nodes on sheets that passed.
-module _ {shop sheet ends starts : List ℕ} (i : Indexed shop sheet ends starts) (m : ℕ) (h : m < methodCount shop) where
+module _ {shop sheet table : List ℕ} (i : Indexed shop sheet table) (m : ℕ) (h : m < methodCount shop) where
   nodes-numbered : Numbered 0 (networkOf (methodAt (domain shop) m))
   nodes-numbered =
       let passes = shop-of-order shop sheet (i .checked) in

@@ -14,7 +14,7 @@ ghost use Rattle.hgn.specs.Network.{free, goalAt};
 ghost use Rattle.hgn.specs.Run.{methodAt};
 ghost use Rattle.hgn.specs.Shop.{domain, methodCount};
 ghost use Rattle.network.specs.Entries.{entryAt, listOf};
-ghost use Rattle.network.specs.Tables.{Indexed};
+ghost use Rattle.spans.specs.Tables.{Indexed};
 ghost use Rattle.predecessors.specs.Pending.{Counted};
 ghost use Rattle.predecessors.specs.Reaching.{ListReached};
 
@@ -22,8 +22,7 @@ ghost use Rattle.predecessors.specs.Reaching.{ListReached};
 pub fn decomposed<'a>(
     shop: &'a [u16],
     order: &'a [u16],
-    ends: &[u16],
-    starts: &[u16],
+    tables: &[u16],
     counts: &mut [usize],
     waiting: Waiting,
     number: u16,
@@ -31,7 +30,7 @@ pub fn decomposed<'a>(
     parent: Name,
     place: Place,
 ) -> Waiting
-    requires { ⌜ Indexed (now shop) (now order) (now ends) (now starts) ⌝ }
+    requires { ⌜ Indexed (now shop) (now order) (now tables) ⌝ }
     requires { ⌜ (method < methodCount (now shop)) × (number < 65535) × (place .0 < waiting .count) × (parent ≡ entryAt waiting (place .0) .name) ⌝ }
     requires { ⌜ (waiting .count + length (networkOf (methodAt (domain (now shop)) method)) ≤ 64) × (length (now counts) ≡ 64) ⌝ }
     requires { ⌜ ListReached (now shop) (now order) number (listOf (now shop) (now order) waiting) ⌝ }
@@ -40,7 +39,7 @@ pub fn decomposed<'a>(
     ensures { λ r. ⌜ (listOf (now (shop .entry)) (now (order .entry)) r ≡ Network.decomposed (listOf (now (shop .entry)) (now (order .entry)) waiting) (place .0) (Network.step number) (networkOf (methodAt (domain (now (shop .entry))) method))) × (r .count ≤ 64) ⌝ }
     ensures { λ r. ⌜ Counted (listOf (now (shop .entry)) (now (order .entry)) r) (now (counts .exit)) ⌝ }
 {
-    let next = waiting.decomposed(shop, ends, starts, number, method, parent, place);
+    let next = waiting.decomposed(shop, tables, number, method, parent, place);
     let nodes = next.count as usize - waiting.count as usize;
     let at = place.0 as usize;
     raise(counts, at, nodes, waiting.count as usize - at);

@@ -1,11 +1,10 @@
--- The tests of a move, by its cases: an action and a method by the rows that the tables tell. Assumes nothing.
-use Prim.Native.Nat.{ℕ, _+_, _<_, _≤_}
-use native.Mathlib.Omega.{arith}
+-- The tests of a move, by its cases: an action and a method by their rows. Assumes nothing.
+use Prim.Native.Nat.{ℕ, _+_, _≤_}
 use mathlib.Core.Path.{_≡_, refl, sym, ap, ap₂, _∙_}
 use mathlib.Core.Bool.{Bool, true, false, _&&_}
 use mathlib.Core.List.{List, zipWith}
 use lib.Dec.{ltb}
-use lib.ListN.{length, take}
+use lib.ListN.{take}
 use Rattle.hgn.specs.Lists.{any}
 use Rattle.hgn.specs.Rows.{row}
 use Rattle.hgn.specs.Meaning.{Action, Literal, literals, nodeOf, actionOf}
@@ -15,19 +14,16 @@ use Rattle.hgn.specs.Network.{free}
 use Rattle.hgn.specs.Run.{actionAt, methodAt}
 use Rattle.hgn.specs.Shop.{domain, actionCount, methodCount}
 use Rattle.hgn.specs.Replay.{rulesOf}
-use Rattle.spans.specs.Index.{tagsOf, valuesOf}
+use Rattle.spans.specs.Index.{tagsOf, valuesOf, spanRows}
 use Rattle.spans.specs.declared.index.Span.{Span}
-use Rattle.formulas.specs.Spanned.{spanRows}
 use Rattle.network.specs.Entries.{waitingOf}
 use Rattle.steps.specs.Moves.{Known, knownOf}
-use Rattle.network.specs.Tables.{Indexed}
+use Rattle.spans.specs.Tables.{Indexed}
 use Rattle.steps.specs.declared.moves.Move.{Move}
 use Rattle.steps.specs.declared.moves.Move.the-variants.{Release, Act, Use}
 use Rattle.network.specs.declared.waiting.Entry.{Entry}
-use Rattle.network.proofs.Tables.{starts-fit}
-use Rattle.steps.proofs.Actions.{known-action, action-rows}
+use Rattle.steps.proofs.Actions.{known-action}
 use Rattle.pruning.specs.Rules.{ready, idle, lowerToo, stateAfter}
-use Rattle.needed.specs.Tables.{actionSpan}
 use Rattle.reasons.specs.Tests.{wanted, crowded}
 
 -- A release.
@@ -76,15 +72,17 @@ module _ (shop : List ℕ) {m : Move} {k : ℕ} (e : m ≡ Use k) where
   unfolding stateAfter
   after-method s = rw e
 
--- An action, with the rows that the table of starts tells.
-module _ {shop order endTable startTable : List ℕ} (ix : Indexed shop order endTable startTable) {m : Move} {k : ℕ}
+-- An action, with its rows.
+module _ {shop order table : List ℕ} (ix : Indexed shop order table) {m : Move} {k : ℕ}
     (h : Known (actionCount shop) (methodCount shop) m) (e : m ≡ Act k) where
-  pub action-inside : (1 ≤ k) × (k < length startTable)
-  action-inside = let a = known-action ix h e in (a .0, omega (arith, starts-fit ix))
+  -- What finding its rows asks.
+  pub action-inside : (shop order : List ℕ) × Indexed shop order table × (1 ≤ k) × (k ≤ actionCount shop)
+  action-inside = let a = known-action ix h e in (shop, order, ix, a .0, a .1)
 
-  module _ {rows : Span} (t : rows ≡ actionSpan startTable k) where
+  module _ (rows : Span)
+      (found : (shop order : List ℕ) → Indexed shop order table → k ≤ actionCount shop → actionAt (domain shop) k ≡ actionOf (spanRows shop order rows)) where
     action-is : actionAt (domain shop) k ≡ actionOf (spanRows shop order rows)
-    action-is = let a = known-action ix h e in action-rows ix k (a .0) (a .1) ∙ ap (λ (x : Span). actionOf (spanRows shop order x)) (sym t)
+    action-is = found shop order ix (known-action ix h e .1)
 
     needs-are : literals 3 4 (spanRows shop order rows) ≡ actionAt (domain shop) k .needs
     unfolding actionOf

@@ -22,7 +22,7 @@ use Rattle.scan.specs.declared.rows.Layout.{Layout}
 use Rattle.reading.specs.declared.position.Sheet.the-variants as Of
 use Rattle.spans.proofs.Spans.{span-empty}
 use Rattle.reading.proofs.Laws.{told}
-use Rattle.formulas.specs.Spanned.{spanRows}
+use Rattle.spans.specs.Index.{spanRows}
 use Rattle.network.specs.Entries.{waitingOf, listOf, entriesOf, entryAt, noEntry}
 use Rattle.network.specs.declared.waiting.Entry.{Entry}
 use Rattle.network.specs.declared.waiting.Waiting.{Waiting}

@@ -13,10 +13,10 @@ use Rattle.hgn.specs.Trace.{step}
 use Rattle.hgn.proofs.Moves.{reads-action, reads-method}
 use Rattle.hgn.proofs.Checked.{shop-actions, shop-methods, shop-counts}
 use Rattle.steps.specs.Moves.{Known, knownOf}
-use Rattle.network.specs.Tables.{Indexed}
+use Rattle.spans.specs.Tables.{Indexed}
 use Rattle.steps.specs.declared.moves.Move.{Move}
 use Rattle.steps.specs.declared.moves.Move.the-variants.{Release, Act, Use}
-use Rattle.network.proofs.Tables.{shop-passes}
+use Rattle.spans.proofs.Tables.{shop-passes}
 use Rattle.pruning.specs.Rules.{isAction, goesFirst}
 use Rattle.reasons.specs.Tests.{moveNumber, actionNumber, before}
 
@@ -59,7 +59,7 @@ module _ (y : Move) (q : ℕ) (x : Move) (p : ℕ) where
     pub before-action : 0 < a → {b : ℕ} → b ≡ actionNumber y → ltb a b ≡ before y q x p
     before-action h t = rw (r, t, le-ltb p q (omega arith), eq-eqb p q e, lt-ltb 0 (actionNumber x) (omega arith))
 
-module _ {shop order endTable startTable : List ℕ} (ix : Indexed shop order endTable startTable) where
+module _ {shop order table : List ℕ} (ix : Indexed shop order table) where
   abbrev Moves : Move → Type 0
   Moves m = Known (actionCount shop) (methodCount shop) m
 

@@ -15,7 +15,7 @@ use Rattle.reading.proofs.Laws.{told}
 use Rattle.network.specs.Entries.{waitingOf, listOf, entryAt}
 use Rattle.steps.specs.Moves.{Known, knownOf}
 use Rattle.steps.specs.Steps.{problemIn}
-use Rattle.network.specs.Tables.{Indexed}
+use Rattle.spans.specs.Tables.{Indexed}
 use Rattle.steps.specs.declared.moves.Move.{Move}
 use Rattle.steps.specs.declared.moves.Move.the-variants.{Release, Act, Use}
 use Rattle.network.specs.declared.waiting.Entry.{Entry}
@@ -79,7 +79,7 @@ module _ (d : Domain) (s : State) where
       pub swap-asked : b ≡ true → {c : Bool} → c ≡ commute d s y x → c ≡ swapReady d s h y g x
       swap-asked q e = rw (told p t, then-ready q) e
 
-module _ {shop order endTable startTable : List ℕ} (ix : Indexed shop order endTable startTable) (b : Problem) (y : Move) (q : ℕ) (x : Move) (p : ℕ)
+module _ {shop order table : List ℕ} (ix : Indexed shop order table) (b : Problem) (y : Move) (q : ℕ) (x : Move) (p : ℕ)
     (h : Known (actionCount shop) (methodCount shop) y) (k : Known (actionCount shop) (methodCount shop) x) {a : Bool} (f : a ≡ before y q x p) where
   abbrev Could : Bool → Type 0
   Could r = r ≡ couldGoFirst (domain shop) (problemIn shop order b) (step (moveNumber y) q) (step (moveNumber x) p)

@@ -1,16 +1,15 @@
 // The steps that the search leaves out, one test for each reason. None stands on the first of the shortest traces.
-use crate::moves;
 use formulas::literals;
 use formulas::parts;
 use formulas::state::State;
 use freeness::free;
-use needed::makers;
 use network::waiting::Entry;
 use network::waiting::Place;
 use network::waiting::Waiting;
 use reading::tag;
 use spans::index;
 use spans::index::Span;
+use spans::operators;
 use steps::moves::Move;
 use steps::problem;
 use steps::problem::Problem;
@@ -26,8 +25,8 @@ ghost use Rattle.hgn.specs.Shop.{domain, actionCount, methodCount};
 ghost use Rattle.hgn.specs.Replay.{rulesOf};
 ghost use Rattle.hgn.specs.Trace.{step};
 ghost use Rattle.network.specs.Entries.{listOf, waitingOf};
-ghost use Rattle.formulas.specs.Spanned.{spanRows};
-ghost use Rattle.network.specs.Tables.{Indexed};
+ghost use Rattle.spans.specs.Index.{spanRows};
+ghost use Rattle.spans.specs.Tables.{Indexed};
 ghost use Rattle.steps.specs.Moves.{Known, knownOf};
 ghost use Rattle.steps.specs.Steps.{problemIn};
 ghost use Rattle.pruning.specs.Rules as Rules;
@@ -37,13 +36,12 @@ ghost use Rattle.reasons.specs.Tests.{moveNumber, actionNumber, before, 
 pub fn ready<'a>(
     shop: &'a [u16],
     order: &'a [u16],
-    ends: &[u16],
-    starts: &[u16],
+    tables: &[u16],
     atoms: &[bool; 256],
     goal: Entry,
     mv: Move,
 ) -> bool
-    requires { ⌜ Indexed (now shop) (now order) (now ends) (now starts) × Known (actionCount (now shop)) (methodCount (now shop)) mv ⌝ }
+    requires { ⌜ Indexed (now shop) (now order) (now tables) × Known (actionCount (now shop)) (methodCount (now shop)) mv ⌝ }
     ensures { λ r. ⌜ r ≡ Rules.ready (domain (now (shop .entry))) (now (atoms .entry)) (waitingOf (now (shop .entry)) (now (order .entry)) goal) (knownOf mv) ⌝ }
 {
     match mv {
@@ -52,12 +50,13 @@ pub fn ready<'a>(
             parts::goal_holds(atoms, shop, order, rows)
         }
         Move::Act(action) => {
-            let rows = makers::action_rows(starts, action);
+            let rows = operators::action_rows(tables, action);
             parts::needs_hold(atoms, shop, order, rows)
         }
         Move::Use(method) => {
-            let rows = moves::method_rows(shop, order, ends, starts, method);
-            parts::needs_hold(atoms, shop, order, rows)
+            let rows = operators::method_rows(shop, tables, method);
+            let head = Span::of_shop(rows.from, rows.first);
+            parts::needs_hold(atoms, shop, order, head)
         }
     }
 }
@@ -66,18 +65,17 @@ pub fn ready<'a>(
 pub fn wanted<'a>(
     shop: &'a [u16],
     order: &'a [u16],
-    ends: &[u16],
-    starts: &[u16],
+    tables: &[u16],
     goal: Entry,
     mv: Move,
 ) -> bool
-    requires { ⌜ Indexed (now shop) (now order) (now ends) (now starts) × Known (actionCount (now shop)) (methodCount (now shop)) mv ⌝ }
+    requires { ⌜ Indexed (now shop) (now order) (now tables) × Known (actionCount (now shop)) (methodCount (now shop)) mv ⌝ }
     ensures { λ r. ⌜ r ≡ isWanted (rulesOf (now (shop .entry))) (waitingOf (now (shop .entry)) (now (order .entry)) goal) (knownOf mv) ⌝ }
 {
     match mv {
         Move::Release => true,
         Move::Act(action) => {
-            let rows = makers::action_rows(starts, action);
+            let rows = operators::action_rows(tables, action);
             let wants = goal.rows;
             parts::helps(shop, order, rows, tag::MAKES_TRUE, tag::MAKES_FALSE, wants)
         }
@@ -101,18 +99,17 @@ pub fn crowded(left: u16, count: u16, mv: Move) -> bool
 pub fn idle<'a>(
     shop: &'a [u16],
     order: &'a [u16],
-    ends: &[u16],
-    starts: &[u16],
+    tables: &[u16],
     atoms: &[bool; 256],
     mv: Move,
 ) -> bool
-    requires { ⌜ Indexed (now shop) (now order) (now ends) (now starts) × Known (actionCount (now shop)) (methodCount (now shop)) mv ⌝ }
+    requires { ⌜ Indexed (now shop) (now order) (now tables) × Known (actionCount (now shop)) (methodCount (now shop)) mv ⌝ }
     ensures { λ r. ⌜ r ≡ Rules.idle (domain (now (shop .entry))) (now (atoms .entry)) (knownOf mv) ⌝ }
 {
     match mv {
         Move::Release => false,
         Move::Act(action) => {
-            let rows = makers::action_rows(starts, action);
+            let rows = operators::action_rows(tables, action);
             let tags = index::tags_of(rows, shop, order);
             let values = index::values_of(rows, shop, order);
             literals::all_hold(atoms, tags, values, tag::MAKES_TRUE, tag::MAKES_FALSE)
@@ -155,20 +152,19 @@ fn helps_lower<'a>(
 pub fn lower_too<'a>(
     shop: &'a [u16],
     order: &'a [u16],
-    ends: &[u16],
-    starts: &[u16],
+    tables: &[u16],
     waiting: Waiting,
     mv: Move,
     place: Place,
 ) -> bool
-    requires { ⌜ Indexed (now shop) (now order) (now ends) (now starts) × Known (actionCount (now shop)) (methodCount (now shop)) mv ⌝ }
+    requires { ⌜ Indexed (now shop) (now order) (now tables) × Known (actionCount (now shop)) (methodCount (now shop)) mv ⌝ }
     requires { ⌜ (place .0 ≤ waiting .count) × (waiting .count ≤ 64) ⌝ }
     ensures { λ r. ⌜ r ≡ Rules.lowerToo (rulesOf (now (shop .entry))) (listOf (now (shop .entry)) (now (order .entry)) waiting) (place .0) (knownOf mv) ⌝ }
 {
     match mv {
         Move::Release => false,
         Move::Act(action) => {
-            let rows = makers::action_rows(starts, action);
+            let rows = operators::action_rows(tables, action);
             helps_lower(shop, order, waiting, rows, place)
         }
         Move::Use(method) => false,
@@ -244,18 +240,17 @@ pub fn goes_first(last: Move, last_place: Place, mv: Move, place: Place) -> bool
 pub fn state_after<'a>(
     shop: &'a [u16],
     order: &'a [u16],
-    ends: &[u16],
-    starts: &[u16],
+    tables: &[u16],
     atoms: [bool; 256],
     mv: Move,
 ) -> [bool; 256]
-    requires { ⌜ Indexed (now shop) (now order) (now ends) (now starts) × Known (actionCount (now shop)) (methodCount (now shop)) mv ⌝ }
+    requires { ⌜ Indexed (now shop) (now order) (now tables) × Known (actionCount (now shop)) (methodCount (now shop)) mv ⌝ }
     ensures { λ r. ⌜ r ≡ Rules.stateAfter (domain (now (shop .entry))) atoms (knownOf mv) ⌝ }
 {
     match mv {
         Move::Release => atoms,
         Move::Act(action) => {
-            let rows = makers::action_rows(starts, action);
+            let rows = operators::action_rows(tables, action);
             problem::changed(atoms, shop, order, rows)
         }
         Move::Use(method) => atoms,
@@ -280,13 +275,12 @@ fn same_state(a: [bool; 256], b: [bool; 256]) -> bool
 fn commute<'a>(
     shop: &'a [u16],
     order: &'a [u16],
-    ends: &[u16],
-    starts: &[u16],
+    tables: &[u16],
     atoms: [bool; 256],
     last: Move,
     mv: Move,
 ) -> bool
-    requires { ⌜ Indexed (now shop) (now order) (now ends) (now starts) × Known (actionCount (now shop)) (methodCount (now shop)) last × Known (actionCount (now shop)) (methodCount (now shop)) mv ⌝ }
+    requires { ⌜ Indexed (now shop) (now order) (now tables) × Known (actionCount (now shop)) (methodCount (now shop)) last × Known (actionCount (now shop)) (methodCount (now shop)) mv ⌝ }
     ensures { λ r. ⌜ r ≡ Rules.commute (domain (now (shop .entry))) atoms (knownOf last) (knownOf mv) ⌝ }
 {
     if action_of(last) == 0 {
@@ -295,10 +289,10 @@ fn commute<'a>(
     if action_of(mv) == 0 {
         return true;
     }
-    let first = state_after(shop, order, ends, starts, atoms, mv);
-    let then = state_after(shop, order, ends, starts, first, last);
-    let other = state_after(shop, order, ends, starts, atoms, last);
-    let second = state_after(shop, order, ends, starts, other, mv);
+    let first = state_after(shop, order, tables, atoms, mv);
+    let then = state_after(shop, order, tables, first, last);
+    let other = state_after(shop, order, tables, atoms, last);
+    let second = state_after(shop, order, tables, other, mv);
     same_state(then, second)
 }
 
@@ -306,22 +300,21 @@ fn commute<'a>(
 fn swap_ready<'a>(
     shop: &'a [u16],
     order: &'a [u16],
-    ends: &[u16],
-    starts: &[u16],
+    tables: &[u16],
     atoms: [bool; 256],
     last_goal: Entry,
     last: Move,
     goal: Entry,
     mv: Move,
 ) -> bool
-    requires { ⌜ Indexed (now shop) (now order) (now ends) (now starts) × Known (actionCount (now shop)) (methodCount (now shop)) last × Known (actionCount (now shop)) (methodCount (now shop)) mv ⌝ }
+    requires { ⌜ Indexed (now shop) (now order) (now tables) × Known (actionCount (now shop)) (methodCount (now shop)) last × Known (actionCount (now shop)) (methodCount (now shop)) mv ⌝ }
     ensures { λ r. ⌜ r ≡ swapReady (domain (now (shop .entry))) atoms
         (waitingOf (now (shop .entry)) (now (order .entry)) «last_goal») (knownOf last) (waitingOf (now (shop .entry)) (now (order .entry)) goal) (knownOf mv) ⌝ }
 {
-    if ready(shop, order, ends, starts, &atoms, goal, mv) {
-        let next = state_after(shop, order, ends, starts, atoms, mv);
-        if ready(shop, order, ends, starts, &next, last_goal, last) {
-            return commute(shop, order, ends, starts, atoms, last, mv);
+    if ready(shop, order, tables, &atoms, goal, mv) {
+        let next = state_after(shop, order, tables, atoms, mv);
+        if ready(shop, order, tables, &next, last_goal, last) {
+            return commute(shop, order, tables, atoms, last, mv);
         }
     }
     false
@@ -331,15 +324,14 @@ fn swap_ready<'a>(
 pub fn could_go_first<'a>(
     shop: &'a [u16],
     order: &'a [u16],
-    ends: &[u16],
-    starts: &[u16],
+    tables: &[u16],
     before: Problem,
     last: Move,
     last_place: Place,
     mv: Move,
     place: Place,
 ) -> bool
-    requires { ⌜ Indexed (now shop) (now order) (now ends) (now starts) × (before .waiting .count ≤ 64) ⌝ }
+    requires { ⌜ Indexed (now shop) (now order) (now tables) × (before .waiting .count ≤ 64) ⌝ }
     requires { ⌜ Known (actionCount (now shop)) (methodCount (now shop)) last × Known (actionCount (now shop)) (methodCount (now shop)) mv ⌝ }
     ensures { λ r. ⌜ r ≡ Rules.couldGoFirst (domain (now (shop .entry))) (problemIn (now (shop .entry)) (now (order .entry)) before)
         (step (moveNumber last) («last_place» .0)) (step (moveNumber mv) (place .0)) ⌝ }
@@ -350,7 +342,7 @@ pub fn could_go_first<'a>(
             let atoms = before.atoms;
             let last_goal = waiting.goal(last_place);
             let goal = waiting.goal(place);
-            return swap_ready(shop, order, ends, starts, atoms, last_goal, last, goal, mv);
+            return swap_ready(shop, order, tables, atoms, last_goal, last, goal, mv);
         }
     }
     false

@@ -2,8 +2,8 @@
 use Prim.Native.Nat.{ℕ, _<_, _≤_}
 use native.Mathlib.Omega.{arith}
 use mathlib.Core.Path.{_≡_, refl, sym, ap, _∙_}
-use mathlib.Core.Bool.{false, cond}
-use mathlib.Core.List.{List, [], _∷_, map, map-map}
+use mathlib.Core.Bool.{false}
+use mathlib.Core.List.{List, map, map-map}
 use mathlib.Core.Option.{none}
 use lib.Dec.{eqb}
 use lib.ListN.{length, getD, length-take, length-map}
@@ -20,22 +20,18 @@ use Rattle.hgn.specs.Order as Order
 use Rattle.hgn.specs.Order.{orderRows}
 use Rattle.hgn.proofs.Checked.{order-count}
 use Rattle.reading.specs.declared.position.Sheet.the-variants as Of
-use Rattle.spans.specs.Index.{ends, span}
+use Rattle.spans.specs.Index.{ends, span, spanRows, spanOf}
 use Rattle.scan.proofs.Lookup.{rows-at}
 use Rattle.spans.proofs.Spans.{by-test, ends-length, NodesFrom}
-use Rattle.spans.proofs.Indexed.{order-length, order-whole, order-nodes-here, order-nodes-later, order-until, order-columns, order-indexable}
+use Rattle.spans.proofs.Indexed.{order-length, order-whole, order-nodes-here, order-nodes-later, order-until, order-columns, order-fits}
 use Rattle.network.specs.Entries.{orderOrigin, waitingOf, listOf, entriesOf}
-use Rattle.formulas.specs.Spanned.{spanRows}
-use Rattle.network.specs.Entering.{Bounds, Walk, entriesFrom}
-use Rattle.replay.specs.OrderTable.{OrderIndexed}
+use Rattle.spans.specs.Tables.{Bounds, Walk, nodeAt}
+use Rattle.network.specs.Entering.{entriesFrom}
+use Rattle.replay.specs.OrderTable.{OrderIndexed, firstRow}
 use Rattle.network.specs.declared.waiting.Name.{Name}
 use Rattle.network.specs.declared.waiting.Waiting.{Waiting}
-use Rattle.network.proofs.Entered.{nodeAt, order-enters}
-use Rattle.network.proofs.NodeParts.{walk-nodes}
-
--- The row at which the order's first node begins, or its end, as the code reads it.
-abbrev pub firstRow : List ℕ → List ℕ → ℕ
-firstRow order table = cond (eqb (getD order 2 0) 0) 0 (cond (eqb (getD order 3 0) 7) 0 (getD table 0 0))
+use Rattle.network.proofs.Entered.{order-enters}
+use Rattle.spans.proofs.NodeParts.{walk-nodes}
 
 -- The order's goals, whose rows begin at `first`.
 pub record GoalsAt (shop order table : List ℕ) (first : ℕ) : Type 0 where
@@ -46,8 +42,7 @@ pub record GoalsAt (shop order table : List ℕ) (first : ℕ) : Type 0 where
 
 -- The whole of a checked order's span is its rows.
 pub whole-rows : (shop order : List ℕ) → Order.checkOrder shop order ≡ passed
-    → spanRows shop order (record { sheet = Of.Order; from = 0; to = Order.rowCount order }) ≡ orderRows order
-unfolding spanRows
+    → spanRows shop order (spanOf Of.Order 0 (Order.rowCount order)) ≡ orderRows order
 whole-rows shop order e = order-columns shop order e 0 (Order.rowCount order) (omega arith) (omega arith) ∙ order-whole shop order e
 
 module _ {shop order table : List ℕ} (ix : OrderIndexed shop order table) where
@@ -67,10 +62,9 @@ module _ {shop order table : List ℕ} (ix : OrderIndexed shop order table) wher
   end-at i h = sym (getD-take n table i 0 (omega (arith, long))) ∙ ap (λ (l : List ℕ). getD l i 0) (ix .ends-are)
 
   abbrev part : Bounds → List Row
-  part b = spanRows shop order (record { sheet = Of.Order; from = b .from; to = b .to })
+  part b = spanRows shop order (spanOf Of.Order (b .from) (b .to))
 
   part-is : (from to : ℕ) → from ≤ to → to ≤ length rows → part (record { from = from; to = to }) ≡ span rows from to
-  unfolding spanRows
   part-is from to f t = order-columns shop order (ix .checked) from to f (omega (arith, long))
 
   -- A walk over the nodes from some row on has the order's goals, if those are all its nodes.
@@ -90,7 +84,7 @@ module _ {shop order table : List ℕ} (ix : OrderIndexed shop order table) wher
   -- The tag of the first row.
   first-tag : 0 < n → getD rows 0 (row 0 0) .tag ≡ getD order 3 0
   unfolding orderRows
-  first-tag h = ap (λ (r : Row). r .tag) (rows-at 3 n order (order-indexable shop order (ix .checked) {ends′ = table} {starts′ = 0 ∷ []} (omega (arith, fit, long)) (omega arith) .fits) 0 h)
+  first-tag h = ap (λ (r : Row). r .tag) (rows-at 3 n order (order-fits shop order (ix .checked)) 0 h)
 
   pub goals-read : GoalsAt shop order table (firstRow order table)
   goals-read =

@@ -4,6 +4,5 @@ pub mod Writes
 pub mod Running
 pub mod Totals
 pub mod Firsts
-pub mod Indexing
 pub mod Calls
 pub mod CallDemands

@@ -1,6 +1,6 @@
 -- A run's steps as its trace has them, what an action costs by the words of its sheet, and how a run goes on and ends by what its
 -- steps come to. Assumes nothing.
-use Prim.Native.Nat.{ℕ, suc, _+_, _-_, _<_, _≤_}
+use Prim.Native.Nat.{ℕ, _+_, _-_, _<_, _≤_}
 use native.Mathlib.Omega.{arith}
 use native.Mathlib.Nat.{add-zero}
 use mathlib.Core.Path.{_≡_, refl, sym, ap, ap₂, _∙_}
@@ -8,25 +8,19 @@ use mathlib.Core.Bool.{false}
 use mathlib.Core.List.{List, [], _∷_}
 use lib.Dec.{eqb}
 use lib.ListN.{length, getD, take, drop, length-map}
-use lib.Seq.{drop-cons}
-use Rattle.hgn.specs.Rows.{Row, row}
-use Rattle.hgn.specs.Meaning.{Domain, Action, firstValue, actionOf}
+use Rattle.hgn.specs.Meaning.{Domain}
 use Rattle.hgn.specs.Questions.{Refusal, _asks_, placed, allAt, firstNo}
 use Rattle.hgn.specs.Run as Run
 use Rattle.hgn.specs.Run.{Step, actionAt, Deed, refused, taken, stepped, endQuestions, planOf, costOf}
-use Rattle.hgn.specs.Shop.{domain, rowCount, actionCount, shopRows}
+use Rattle.hgn.specs.Shop.{domain}
 use Rattle.hgn.specs.Trace.{step, stepsOf, stepCount}
 use Rattle.hgn.specs.Replay.{rulesOf, refusal, acceptance, reported}
-use Rattle.spans.specs.Index.{starts, span}
-use Rattle.scan.proofs.Lookup.{length-zipWith, getD-zipWith, length-part, getD-part, rows-at}
-use Rattle.spans.proofs.Spans.{bounds, block-first, block-ends, by-test}
-use Rattle.spans.proofs.Indexed.{shop-length, blocks-count, action-span}
+use Rattle.scan.proofs.Lookup.{length-zipWith, getD-zipWith, length-part, getD-part}
+use Rattle.spans.proofs.Spans.{by-test}
 use Rattle.network.specs.Entries.{entriesOf, waitingOf}
-use Rattle.network.specs.Tables.{Indexed}
 use Rattle.replay.specs.Answers.{runAnswer, endAnswer}
 use Rattle.steps.specs.Steps.{problemIn}
 use Rattle.steps.specs.declared.problem.Problem.{Problem}
-use Rattle.network.proofs.Tables.{shop-passes, start-at, indexable}
 use Rattle.replay.proofs.Running.{prependAll, prepended-stopped, prepended-accepted, Running, running-next, running-stop, running-end}
 
 -- The steps of a trace that is long enough for them.
@@ -45,36 +39,10 @@ module _ (trace : List ℕ) (fits : 1 + (stepCount trace + stepCount trace) ≤ 
       (rw (length-part trace 1 (stepCount trace) (omega arith)) h) (rw (length-part trace (1 + stepCount trace) (stepCount trace) (omega arith)) h)
       ∙ ap₂ {C = Step} (λ m p. step m p) (getD-part trace 1 (stepCount trace) (omega arith) i h) (getD-part trace (1 + stepCount trace) (stepCount trace) (omega arith) i h)
 
--- The first row of a span.
-first-of-span : (rows : List Row) (a e : ℕ) → a < e → e ≤ length rows → firstValue (span rows a e) ≡ getD rows a (row 0 0) .value
-unfolding span firstValue
-first-of-span rows a e h l =
-    ap₂ {C = ℕ} (λ n xs. firstValue (take n xs)) (let d : e - a ≡ suc (e - suc a) = omega arith in d) (drop-cons rows a (row 0 0) (omega arith))
-
-module _ (shop order endTable startTable : List ℕ) (t : Indexed shop order endTable startTable) where
-  -- An action by its number.
-  module _ (k : ℕ) (low : 1 ≤ k) (high : k ≤ actionCount shop) where
-    block : k - 1 < length (starts 0 (shopRows shop))
-    block = omega (arith, blocks-count shop (shop-passes t))
-
-    start-is : getD startTable (k - 1) 0 ≡ getD (bounds (shopRows shop)) (k - 1) 0
-    start-is = start-at t (k - 1) (omega arith)
-
-    pub start-below : getD startTable (k - 1) 0 < rowCount shop
-    start-below = omega (arith, start-is, block-first (shopRows shop) (k - 1) block .0, shop-length shop (shop-passes t))
-
-    pub start-inside : (1 ≤ k) × (k ≤ length startTable) × (4 + (rowCount shop + rowCount shop) ≤ length shop)
-    start-inside = (low, omega (arith, indexable t .starts-fit), indexable t .fits)
-
-    -- Its cost is the value of the row at which it starts.
-    pub cost-is : costOf (domain shop) (k ∷ []) ≡ getD shop (4 + rowCount shop + getD startTable (k - 1) 0) 0
-    unfolding costOf actionOf shopRows
-    cost-is =
-        let w = block-ends (shopRows shop) (k - 1) block in
-        add-zero (actionAt (domain shop) k .cost)
-        ∙ ap (λ (a : Action). a .cost) (action-span shop (shop-passes t) (k - 1) (omega arith))
-        ∙ first-of-span (shopRows shop) (getD (bounds (shopRows shop)) (k - 1) 0) (getD (bounds (shopRows shop)) (suc (k - 1)) 0) (w .0) (w .1)
-        ∙ ap (λ (r : Row). r .value) (ap (λ (a : ℕ). getD (shopRows shop) a (row 0 0)) (sym start-is) ∙ rows-at 4 (rowCount shop) shop (indexable t .fits) (getD startTable (k - 1) 0) start-below)
+-- An action alone costs its cost.
+pub cost-is : (d : Domain) (k : ℕ) → costOf d (k ∷ []) ≡ actionAt d k .cost
+unfolding costOf
+cost-is d k = add-zero (actionAt d k .cost)
 
 -- After the last step: is nothing waiting?
 ended-answer : (d : Domain) (steps : ℕ) (deeds : List Deed) (P : Run.Problem)

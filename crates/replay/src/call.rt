@@ -4,11 +4,10 @@ use crate::first;
 use crate::plan;
 use crate::run;
 use reading::refusal::Refusal;
-use scan::rows::Layout;
 use scan::rows::word;
 use sheets::check;
-use sheets::check::Shop;
 use sheets::check::Trace;
+use spans::index::Tables;
 ghost use mathlib.Core.Path.{_≡_};
 ghost use Prim.Native.Nat.{suc, _≤_, _+_};
 ghost use lib.ListN.{length, take, drop};
@@ -35,15 +34,14 @@ fn run_indexed<'a>(
     shop: &'a [u16],
     order: &'a [u16],
     trace: &[u16],
-    ends: &mut [u16],
-    starts: &mut [u16],
+    tables: &mut [u16],
 ) -> Answer
     requires { ⌜ checkTrace (now shop) (now order) (now trace) ≡ passed ⌝ }
-    requires { ⌜ (mostRows ≤ length (now ends)) × (suc (mostActions + mostMethods) ≤ length (now starts)) ⌝ }
+    requires { ⌜ mostRows + suc (mostActions + mostMethods) ≤ length (now tables) ⌝ }
     ensures { λ r. ⌜ answerOf r ≡ runAnswer (now (shop .entry)) (now (trace .entry)) (problemOf (OrderSheet.order (now (order .entry)))) ⌝ }
 {
-    let first = first::prepared(shop, order, ends, starts);
-    run::run(shop, order, trace, ends, starts, first)
+    let first = first::prepared(shop, order, tables);
+    run::run(shop, order, trace, tables, first)
 }
 
 // The same, with tables of the largest sheet's size.
@@ -51,9 +49,8 @@ fn run_checked<'a>(shop: &'a [u16], order: &'a [u16], trace: &[u16]) -> Answer
     requires { ⌜ checkTrace (now shop) (now order) (now trace) ≡ passed ⌝ }
     ensures { λ r. ⌜ answerOf r ≡ runAnswer (now (shop .entry)) (now (trace .entry)) (problemOf (OrderSheet.order (now (order .entry)))) ⌝ }
 {
-    let mut ends = [0u16; Layout::MOST_ROWS as usize];
-    let mut starts = [0u16; Shop::MOST_BLOCKS + 1];
-    run_indexed(shop, order, trace, &mut ends, &mut starts)
+    let mut tables = [0u16; Tables::WORDS];
+    run_indexed(shop, order, trace, &mut tables)
 }
 
 // Questions 1 to 33. Accepted, the plan stands in the first words of the room.

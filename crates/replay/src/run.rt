@@ -9,10 +9,8 @@ use predecessors::kept::fill;
 use predecessors::listed::times_listed;
 use predecessors::moved::decomposed;
 use reading::refusal::Refusal;
-use scan::rows::Layout;
-use scan::rows::Row;
 use scan::rows::word;
-use sheets::check::Shop;
+use spans::operators;
 use steps::moves::Move;
 use steps::problem::Problem;
 use steps::problem::act;
@@ -21,46 +19,29 @@ use steps::questions::decide;
 use steps::questions::told;
 ghost use mathlib.Core.Path.{_≡_};
 ghost use Prim.Native.Nat.{_≤_, _<_, _+_, _-_};
-ghost use lib.ListN.{length, getD};
+ghost use lib.ListN.{length};
 ghost use Rattle.hgn.specs.Network.{goalsOf};
 ghost use Rattle.hgn.specs.Order as OrderSheet;
 ghost use Rattle.hgn.specs.Trace.{stepCount};
 ghost use Rattle.network.specs.Entries.{listOf, entriesOf};
-ghost use Rattle.network.specs.Tables.{Indexed};
+ghost use Rattle.spans.specs.Tables.{Indexed};
 ghost use Rattle.steps.specs.Steps.{problemIn};
 ghost use Rattle.replay.specs.Answers.{answerOf, runAnswer, endAnswer};
-
-// The cost of an action: the value of its first row.
-fn cost_of(shop: &[u16], starts: &[u16], rows: usize, action: u16) -> u16
-    requires { ⌜ (1 ≤ action) × (action ≤ length (now starts)) × (4 + (rows + rows) ≤ length (now shop)) ⌝ }
-    requires { ⌜ getD (now starts) (action - 1) 0 < rows ⌝ }
-    ensures { λ r. ⌜ r ≡ getD (now (shop .entry)) (4 + rows + getD (now (starts .entry)) (action - 1) 0) 0 ⌝ }
-{
-    let at = action as usize;
-    let row = starts[at - 1];
-    let layout = Layout {
-        sizes: Shop::SIZES,
-        rows: rows,
-    };
-    layout.value(shop, Row(row as usize))
-}
 
 // The steps of a trace from the first record on.
 pub fn run<'a>(
     shop: &'a [u16],
     order: &'a [u16],
     trace: &[u16],
-    ends: &[u16],
-    starts: &[u16],
+    tables: &[u16],
     first: Problem,
 ) -> Answer
-    requires { ⌜ Indexed (now shop) (now order) (now ends) (now starts) ⌝ }
+    requires { ⌜ Indexed (now shop) (now order) (now tables) ⌝ }
     requires { ⌜ (1 + (stepCount (now trace) + stepCount (now trace)) ≤ length (now trace)) × (stepCount (now trace) ≤ 4096) ⌝ }
     requires { ⌜ (first .waiting .count ≤ 64) × (listOf (now shop) (now order) (first .waiting) ≡ goalsOf (OrderSheet.order (now order))) ⌝ }
     ensures { λ r. ⌜ answerOf r ≡ runAnswer (now (shop .entry)) (now (trace .entry)) (problemIn (now (shop .entry)) (now (order .entry)) first) ⌝ }
 {
     let steps = word(trace, 0) as usize;
-    let rows = word(shop, 3) as usize;
     // State and list apart, so that a step that changes the one does not copy the other.
     let mut atoms = first.atoms;
     let mut waiting = first.waiting;
@@ -88,8 +69,7 @@ pub fn run<'a>(
         let decision = decide(
             shop,
             order,
-            ends,
-            starts,
+            tables,
             &atoms,
             seen,
             waiting.count,
@@ -114,8 +94,8 @@ pub fn run<'a>(
                     waiting.count -= 1;
                 }
                 Move::Act(action) => {
-                    act(&mut atoms, shop, order, starts, action);
-                    let price = cost_of(shop, starts, rows, action);
+                    act(&mut atoms, shop, order, tables, action);
+                    let price = operators::action_cost(shop, tables, action);
                     count += 1;
                     cost += price as u32;
                 }
@@ -124,8 +104,7 @@ pub fn run<'a>(
                     let next = decomposed(
                         shop,
                         order,
-                        ends,
-                        starts,
+                        tables,
                         &mut counts,
                         waiting,
                         number,

@@ -23,14 +23,14 @@ use Rattle.reading.proofs.Laws.{told}
 use Rattle.network.specs.Entries.{waitingOf, listOf, entryAt}
 use Rattle.steps.specs.Moves.{Known, knownOf}
 use Rattle.steps.specs.Steps.{problemIn}
-use Rattle.network.specs.Tables.{Indexed}
+use Rattle.spans.specs.Tables.{Indexed}
 use Rattle.steps.specs.declared.moves.Move.{Move}
 use Rattle.steps.specs.declared.moves.Move.the-variants.{Release, Act, Use}
 use Rattle.steps.specs.declared.problem.Problem as Record
 use Rattle.network.specs.declared.waiting.Entry.{Entry}
 use Rattle.network.specs.declared.waiting.Waiting as Code
 use Rattle.network.proofs.Goals.{list-length}
-use Rattle.network.proofs.Tables.{shop-passes}
+use Rattle.spans.proofs.Tables.{shop-passes}
 use Rattle.pruning.specs.Rules.{ready, idle}
 use Rattle.pruning.specs.Pruned.{prunedOf, moveAt, movesFrom, placesFrom}
 use Rattle.pruning.proofs.Loops.{moves-count, moves-next, moves-end, places-next, not-free-none, pruned-places}
@@ -72,7 +72,7 @@ module _ (f : Step → Option (List Step)) (d : Domain) where
   place-found w p h e = places-next f d w p h ∙ ap (λ (o : Option (List Step)). orElse o (placesFrom f d w (suc p))) e
 
 -- Move `i` of the known moves.
-module _ {shop order endTable startTable : List ℕ} (ix : Indexed shop order endTable startTable) {i actions all : ℕ} (a : actions ≡ actionCount shop)
+module _ {shop order table : List ℕ} (ix : Indexed shop order table) {i actions all : ℕ} (a : actions ≡ actionCount shop)
     (e : all ≡ actionCount shop + methodCount shop) (h : i ≤ all) {m : Move} (is : m ≡ nthMove i actions) where
   nth-is : m ≡ nthMove i (actionCount shop)
   nth-is = is ∙ ap (nthMove i) a
@@ -123,8 +123,8 @@ found-at-end r P₀ y n s [] count e f h = rw (h, sym e) refl
 found-at-end r P₀ y n s (g ∷ w) count e f h = rw (h, sym e, eqb·suc-zero (length w)) refl
 
 -- The move routine, where it tries its steps.
-module _ {shop order endTable startTable : List ℕ} {problem b : Record.Problem} {y : Step} {left n p : ℕ}
-    (g : Trial shop order endTable startTable problem b y left n p) where
+module _ {shop order table : List ℕ} {problem b : Record.Problem} {y : Step} {left n p : ℕ}
+    (g : Trial shop order table problem b y left n p) where
   abbrev P : Problem
   P = problemIn shop order problem
 

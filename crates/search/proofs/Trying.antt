@@ -22,7 +22,7 @@ use Rattle.hgn.proofs.Steps.{Moved, by-release, by-action, by-method, took}
 use Rattle.hgn.proofs.Waits.{one-released, none-lost}
 use Rattle.reading.specs.Refusals.{refusalOf}
 use Rattle.reading.proofs.Laws.{told}
-use Rattle.network.specs.Tables.{Indexed}
+use Rattle.spans.specs.Tables.{Indexed}
 use Rattle.network.proofs.Goals.{list-length}
 use Rattle.steps.specs.Moves.{Known, knownOf}
 use Rattle.steps.specs.Steps.{problemIn, Asked}
@@ -169,15 +169,15 @@ module _ (r : Rules) (left : ℕ) (P₀ : Problem) (y : Step) (n : ℕ) (P : Pro
 
 -- Where the code tries a step, of number `n`: at place `p` of the record `problem`, with `left` steps left after it. The step before it was
 -- `y`, from the record `b`.
-pub record Trial (shop order endTable startTable : List ℕ) (problem b : Record.Problem) (y : Step) (left n p : ℕ) : Type 0 where
-  pub ix : Indexed shop order endTable startTable
+pub record Trial (shop order table : List ℕ) (problem b : Record.Problem) (y : Step) (left n p : ℕ) : Type 0 where
+  pub ix : Indexed shop order table
   pub full : length (problem .waiting .entries) ≡ 64
   pub few : problem .waiting .count ≤ 64
   pub inside : p < problem .waiting .count
 
 -- One step of the code.
-module _ {shop order endTable startTable : List ℕ} {problem b : Record.Problem} {y : Step} {left n p : ℕ}
-    (g : Trial shop order endTable startTable problem b y left n p) (m : Moves.Move) (known : Known (actionCount shop) (methodCount shop) m) where
+module _ {shop order table : List ℕ} {problem b : Record.Problem} {y : Step} {left n p : ℕ}
+    (g : Trial shop order table problem b y left n p) (m : Moves.Move) (known : Known (actionCount shop) (methodCount shop) m) where
   abbrev d : Domain
   d = domain shop
 

@@ -5,9 +5,8 @@ use needed::least;
 use network::waiting::Place;
 use reading::refusal::Refusal;
 use replay::first;
-use scan::rows::Layout;
 use sheets::check;
-use sheets::check::Shop;
+use spans::index::Tables;
 use steps::moves::Move;
 use steps::problem::Problem;
 ghost use mathlib.Core.Path.{_≡_};
@@ -21,7 +20,7 @@ ghost use Rattle.hgn.specs.Order.{checkOrder};
 ghost use Rattle.hgn.specs.Replay.{rulesOf};
 ghost use Rattle.hgn.specs.Search as Search;
 ghost use Rattle.hgn.specs.Search.{searched};
-ghost use Rattle.network.specs.Tables.{Indexed};
+ghost use Rattle.spans.specs.Tables.{Indexed};
 ghost use Rattle.steps.specs.Steps.{problemIn};
 ghost use Rattle.pruning.specs.Pruned.{prunedShortest};
 ghost use Rattle.search.specs.Founds.{searchedOf, shortestOf, traceOf};
@@ -36,21 +35,19 @@ pub struct Shortest {
 fn deepen<'a>(
     shop: &'a [u16],
     order: &'a [u16],
-    ends: &[u16],
-    starts: &[u16],
+    tables: &[u16],
     first: Problem,
     depth: u16,
 ) -> Shortest
-    requires { ⌜ Indexed (now shop) (now order) (now ends) (now starts) × (first .waiting .count ≤ 64) × (depth ≤ 32) ⌝ }
+    requires { ⌜ Indexed (now shop) (now order) (now tables) × (first .waiting .count ≤ 64) × (depth ≤ 32) ⌝ }
     ensures { λ r. ⌜ (shortestOf r ≡ prunedShortest depth (rulesOf (now (shop .entry))) (problemIn (now (shop .entry)) (now (order .entry)) first)) × (r .length ≤ depth) ⌝ }
 {
-    let mut left = least::at_least(shop, order, ends, starts, first);
+    let mut left = least::at_least(shop, order, tables, first);
     while left <= depth {
         let steps = explore::places(
             shop,
             order,
-            ends,
-            starts,
+            tables,
             first,
             first,
             Move::Release,
@@ -78,15 +75,14 @@ fn search_indexed<'a>(
     shop: &'a [u16],
     order: &'a [u16],
     depth: u16,
-    ends: &mut [u16],
-    starts: &mut [u16],
+    tables: &mut [u16],
 ) -> Shortest
     requires { ⌜ (checkOrder (now shop) (now order) ≡ passed) × (depth ≤ 32) ⌝ }
-    requires { ⌜ (mostRows ≤ length (now ends)) × (suc (mostActions + mostMethods) ≤ length (now starts)) ⌝ }
+    requires { ⌜ mostRows + suc (mostActions + mostMethods) ≤ length (now tables) ⌝ }
     ensures { λ r. ⌜ (shortestOf r ≡ searched (now (shop .entry)) (now (order .entry)) depth) × (r .length ≤ depth) ⌝ }
 {
-    let first = first::prepared(shop, order, ends, starts);
-    deepen(shop, order, ends, starts, first, depth)
+    let first = first::prepared(shop, order, tables);
+    deepen(shop, order, tables, first, depth)
 }
 
 // The same, with tables of the largest sheet's size.
@@ -94,9 +90,8 @@ fn search_checked<'a>(shop: &'a [u16], order: &'a [u16], depth: u16) -> Shortest
     requires { ⌜ (checkOrder (now shop) (now order) ≡ passed) × (depth ≤ 32) ⌝ }
     ensures { λ r. ⌜ (shortestOf r ≡ searched (now (shop .entry)) (now (order .entry)) depth) × (r .length ≤ depth) ⌝ }
 {
-    let mut ends = [0u16; Layout::MOST_ROWS as usize];
-    let mut starts = [0u16; Shop::MOST_BLOCKS + 1];
-    search_indexed(shop, order, depth, &mut ends, &mut starts)
+    let mut tables = [0u16; Tables::WORDS];
+    search_indexed(shop, order, depth, &mut tables)
 }
 
 // So many words, from `at` on.

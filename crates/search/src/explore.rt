@@ -17,7 +17,7 @@ ghost use Rattle.hgn.specs.Shop.{domain, actionCount, methodCount};
 ghost use Rattle.hgn.specs.Replay.{rulesOf};
 ghost use Rattle.hgn.specs.Trace.{step};
 ghost use Rattle.network.specs.Entries.{listOf, entryAt};
-ghost use Rattle.network.specs.Tables.{Indexed};
+ghost use Rattle.spans.specs.Tables.{Indexed};
 ghost use Rattle.steps.specs.Moves.{Known};
 ghost use Rattle.steps.specs.Steps.{problemIn};
 ghost use Rattle.pruning.specs.Pruned.{prunedOf, movesFrom};
@@ -29,8 +29,7 @@ ghost use Rattle.search.specs.Trials.{tried};
 pub fn places<'a>(
     shop: &'a [u16],
     order: &'a [u16],
-    ends: &[u16],
-    starts: &[u16],
+    tables: &[u16],
     problem: Problem,
     before: Problem,
     last: Move,
@@ -38,7 +37,7 @@ pub fn places<'a>(
     left: u16,
     number: u16,
 ) -> Found
-    requires { ⌜ Indexed (now shop) (now order) (now ends) (now starts) ⌝ }
+    requires { ⌜ Indexed (now shop) (now order) (now tables) ⌝ }
     requires { ⌜ (problem .waiting .count ≤ 64) × (before .waiting .count ≤ 64) × (number + left ≤ 32) ⌝ }
     requires { ⌜ Known (actionCount (now shop)) (methodCount (now shop)) last ⌝ }
     ensures { λ r. ⌜ foundOf number left r ≡ prunedOf left (rulesOf (now (shop .entry))) (problemIn (now (shop .entry)) (now (order .entry)) before)
@@ -58,8 +57,7 @@ pub fn places<'a>(
             let r = moves(
                 shop,
                 order,
-                ends,
-                starts,
+                tables,
                 problem,
                 before,
                 last,
@@ -81,8 +79,7 @@ pub fn places<'a>(
 pub fn moves<'a>(
     shop: &'a [u16],
     order: &'a [u16],
-    ends: &[u16],
-    starts: &[u16],
+    tables: &[u16],
     problem: Problem,
     before: Problem,
     last: Move,
@@ -92,7 +89,7 @@ pub fn moves<'a>(
     goal: Entry,
     place: Place,
 ) -> Found
-    requires { ⌜ Indexed (now shop) (now order) (now ends) (now starts) ⌝ }
+    requires { ⌜ Indexed (now shop) (now order) (now tables) ⌝ }
     requires { ⌜ (problem .waiting .count ≤ 64) × (before .waiting .count ≤ 64) × (number + left ≤ 32) × (1 ≤ left) ⌝ }
     requires { ⌜ Known (actionCount (now shop)) (methodCount (now shop)) last ⌝ }
     requires { ⌜ (place .0 < problem .waiting .count) × (goal ≡ entryAt (problem .waiting) (place .0)) ⌝ }
@@ -111,12 +108,11 @@ pub fn moves<'a>(
     while i <= all {
         let mv = moves::nth(i, actions);
         i += 1;
-        if trial::open_at(shop, order, ends, starts, &atoms, goal, left - 1, count, mv) {
+        if trial::open_at(shop, order, tables, &atoms, goal, left - 1, count, mv) {
             let t = trial::try_step(
                 shop,
                 order,
-                ends,
-                starts,
+                tables,
                 problem,
                 before,
                 last,
@@ -131,8 +127,7 @@ pub fn moves<'a>(
                 let r = places(
                     shop,
                     order,
-                    ends,
-                    starts,
+                    tables,
                     next,
                     problem,
                     mv,

@@ -13,7 +13,7 @@ ghost use Rattle.hgn.specs.Shop.{domain, actionCount, methodCount};
 ghost use Rattle.hgn.specs.Replay.{rulesOf};
 ghost use Rattle.hgn.specs.Trace.{step};
 ghost use Rattle.network.specs.Entries.{listOf, waitingOf};
-ghost use Rattle.network.specs.Tables.{Indexed};
+ghost use Rattle.spans.specs.Tables.{Indexed};
 ghost use Rattle.steps.specs.Moves.{Known, knownOf};
 ghost use Rattle.pruning.specs.Rules.{idle};
 ghost use Rattle.reasons.specs.Tests.{moveNumber};
@@ -42,23 +42,22 @@ impl Tried {
 pub fn open_at<'a>(
     shop: &'a [u16],
     order: &'a [u16],
-    ends: &[u16],
-    starts: &[u16],
+    tables: &[u16],
     atoms: &[bool; 256],
     goal: Entry,
     left: u16,
     count: u16,
     mv: Move,
 ) -> bool
-    requires { ⌜ Indexed (now shop) (now order) (now ends) (now starts) × Known (actionCount (now shop)) (methodCount (now shop)) mv × (left ≤ 32) ⌝ }
+    requires { ⌜ Indexed (now shop) (now order) (now tables) × Known (actionCount (now shop)) (methodCount (now shop)) mv × (left ≤ 32) ⌝ }
     ensures { λ r. ⌜ r ≡ opens (rulesOf (now (shop .entry))) (now (atoms .entry)) (waitingOf (now (shop .entry)) (now (order .entry)) goal) left count (knownOf mv) ⌝ }
 {
     if rules::crowded(left, count, mv) {
         return false;
     }
-    if rules::ready(shop, order, ends, starts, atoms, goal, mv) {
-        if rules::wanted(shop, order, ends, starts, goal, mv) {
-            if rules::idle(shop, order, ends, starts, atoms, mv) {
+    if rules::ready(shop, order, tables, atoms, goal, mv) {
+        if rules::wanted(shop, order, tables, goal, mv) {
+            if rules::idle(shop, order, tables, atoms, mv) {
                 return false;
             }
             return true;
@@ -71,8 +70,7 @@ pub fn open_at<'a>(
 pub fn try_step<'a>(
     shop: &'a [u16],
     order: &'a [u16],
-    ends: &[u16],
-    starts: &[u16],
+    tables: &[u16],
     problem: Problem,
     before: Problem,
     last: Move,
@@ -82,7 +80,7 @@ pub fn try_step<'a>(
     mv: Move,
     place: Place,
 ) -> Tried
-    requires { ⌜ Indexed (now shop) (now order) (now ends) (now starts) ⌝ }
+    requires { ⌜ Indexed (now shop) (now order) (now tables) ⌝ }
     requires { ⌜ (place .0 < problem .waiting .count) × (problem .waiting .count ≤ 64) × (before .waiting .count ≤ 64) × (number < 65535) ⌝ }
     requires { ⌜ Known (actionCount (now shop)) (methodCount (now shop)) last × Known (actionCount (now shop)) (methodCount (now shop)) mv ⌝ }
     requires { ⌜ free (listOf (now shop) (now order) (problem .waiting)) (goalAt (listOf (now shop) (now order) (problem .waiting)) (place .0)) ≡ true ⌝ }
@@ -95,8 +93,7 @@ pub fn try_step<'a>(
         if rules::could_go_first(
             shop,
             order,
-            ends,
-            starts,
+            tables,
             before,
             last,
             last_place,
@@ -107,10 +104,10 @@ pub fn try_step<'a>(
         }
     }
     let waiting = problem.waiting;
-    if rules::lower_too(shop, order, ends, starts, waiting, mv, place) {
+    if rules::lower_too(shop, order, tables, waiting, mv, place) {
         return Tried::out(problem);
     }
-    let stepped = step::take_move(shop, order, ends, starts, problem, number, mv, place);
+    let stepped = step::take_move(shop, order, tables, problem, number, mv, place);
     if stepped.refusal.number != 0 {
         return Tried::out(problem);
     }

@@ -3,23 +3,23 @@
 use Prim.Native.Nat.{ℕ, zero, suc, _+_, _-_, _<_, _≤_}
 use native.Mathlib.Omega.{arith}
 use native.Mathlib.Nat.{add-zero}
-use mathlib.Core.Path.{_≡_, refl, sym, ap, _∙_}
+use mathlib.Core.Path.{_≡_, refl, sym, ap, subst, _∙_}
 use mathlib.Core.Bool.{Bool, true, false, _||_}
 use mathlib.Core.Logic.{_≢_}
 use mathlib.Core.List.{List, [], _∷_, _++_, append-assoc}
 use lib.Dec.{eqb}
-use lib.ListN.{length, getD, take, drop, set, length-set, drop-of-length-le, take-append-drop}
-use lib.Seq.{take-suc, drop-cons, drop-at, set-at, set-split, length-take-le}
+use lib.ListN.{length, getD, take, drop, set, length-set, length-drop, drop-of-length-le, take-append-drop}
+use lib.Seq.{take-suc, drop-cons, take-at, drop-at, set-at, set-split, length-take-le, take-take, take-append-add, take-set-le, take-set-lt, drop-set-lt, drop-set-add}
 use borrow.Author.Tests.{eq-eqb, ne-eqb}
 use Rattle.hgn.specs.Lists.{among, any, upTo}
-use Rattle.hgn.specs.Rows.{Row, row, rowsOf}
+use Rattle.hgn.specs.Rows.{Row, row, rowsOf, mostRows}
 use Rattle.hgn.specs.Meaning.{opens}
 use Rattle.hgn.specs.Tag as Tag
-use Rattle.spans.specs.Index.{marks, starts, ends, Indexable}
+use Rattle.spans.specs.Index.{marks, starts, ends, startsIn, Indexable, Filled}
 use Rattle.scan.specs.declared.rows.Layout.{Layout}
 use Rattle.reading.proofs.Laws.{among-one}
 use Rattle.scan.proofs.Lookup.{rows-length, rows-at}
-use Rattle.spans.proofs.Spans.{by-test, starts-count}
+use Rattle.spans.proofs.Spans.{by-test, starts-count, ends-length}
 
 -- One more number goes in front of those that are filled in.
 fill-in : (l l′ rest : List ℕ) (k v : ℕ) → k < length l → l′ ≡ take (suc k) l ++ rest → set l′ k v ≡ take k l ++ (v ∷ rest)
@@ -42,7 +42,7 @@ fewer-starts (suc k) i j (r ∷ rs) =
 
 -- From row `i` on the rows `rs`, `n` of them, are filled in over `ends₀` and `starts₀`: `end` is the next row that begins an action,
 -- a method or a node, and `block` actions and methods are left.
-pub record Filled (n : ℕ) (rs : List Row) (ends₀ starts₀ : List ℕ) (blocks : ℕ) (ends′ starts′ : List ℕ) (end block i : ℕ) : Type 0 where
+pub record Filling (n : ℕ) (rs : List Row) (ends₀ starts₀ : List ℕ) (blocks : ℕ) (ends′ starts′ : List ℕ) (end block i : ℕ) : Type 0 where
   pub inside : i ≤ n
   pub end-inside : end ≤ n
   pub end-is : end ≡ i + length (upTo marks (drop i rs))
@@ -52,7 +52,14 @@ pub record Filled (n : ℕ) (rs : List Row) (ends₀ starts₀ : List ℕ) (bloc
   pub ends-length : length ends′ ≡ length ends₀
   pub starts-length : length starts′ ≡ length starts₀
 
-module _ {words : List ℕ} {l : Layout} {ends₀ starts₁ : List ℕ} {blocks : ℕ} (q : Indexable words l ends₀ starts₁ blocks) where
+-- Room for the ends and room for the starts, each by itself.
+record Rooms (words : List ℕ) (l : Layout) (ends₀ starts₁ : List ℕ) (blocks : ℕ) : Type 0 where
+  fits : l .sizes + (l .rows + l .rows) ≤ length words
+  ends-fit : l .rows ≤ length ends₀
+  starts-fit : blocks < length starts₁
+  counted : blocks ≡ length (starts 0 (rowsOf (l .sizes) (l .rows) words))
+
+module _ {words : List ℕ} {l : Layout} {ends₀ starts₁ : List ℕ} {blocks : ℕ} (q : Rooms words l ends₀ starts₁ blocks) where
   abbrev rs : List Row
   rs = rowsOf (l .sizes) (l .rows) words
 
@@ -61,7 +68,7 @@ module _ {words : List ℕ} {l : Layout} {ends₀ starts₁ : List ℕ} {blocks 
   starts₀ = set starts₁ blocks (l .rows)
 
   -- At first nothing is filled in, at last everything.
-  pub filled-none : Filled (l .rows) rs ends₀ starts₀ blocks ends₀ starts₀ (l .rows) blocks (l .rows)
+  filled-none : Filling (l .rows) rs ends₀ starts₀ blocks ends₀ starts₀ (l .rows) blocks (l .rows)
   unfolding starts ends upTo
   filled-none =
       let e : drop (l .rows) rs ≡ [] = drop-of-length-le rs {i = l .rows} (omega (arith, rows-length (l .sizes) (l .rows) words (q .fits))) in
@@ -76,11 +83,11 @@ module _ {words : List ℕ} {l : Layout} {ends₀ starts₁ : List ℕ} {blocks 
         starts-length = refl;
       }
 
-  module _ {ends′ starts′ : List ℕ} {end block i : ℕ} (f : Filled (l .rows) rs ends₀ starts₀ blocks ends′ starts′ end block i) where
-    pub starts-same : length starts′ ≡ length starts₁
+  module _ {ends′ starts′ : List ℕ} {end block i : ℕ} (f : Filling (l .rows) rs ends₀ starts₀ blocks ends′ starts′ end block i) where
+    starts-same : length starts′ ≡ length starts₁
     starts-same = f .starts-length ∙ length-set starts₁ blocks (l .rows)
 
-    pub filled-all : i ≤ 0 → (ends′ ≡ ends 0 rs ++ drop (l .rows) ends₀) × (starts′ ≡ starts 0 rs ++ (l .rows ∷ drop (suc blocks) starts₁))
+    filled-all : i ≤ 0 → (ends′ ≡ ends 0 rs ++ drop (l .rows) ends₀) × (starts′ ≡ starts 0 rs ++ (l .rows ∷ drop (suc blocks) starts₁))
     filled-all h =
         let z : i ≡ 0 = omega arith in
         let g = rw z at f in
@@ -89,7 +96,7 @@ module _ {words : List ℕ} {l : Layout} {ends₀ starts₁ : List ℕ} {blocks 
 
     -- The row before, with the tag `t`.
     module _ {k t : ℕ} (one : i ≡ suc k) (is : t ≡ getD words (l .sizes + k) 0) where
-      g : Filled (l .rows) rs ends₀ starts₀ blocks ends′ starts′ end block (suc k)
+      g : Filling (l .rows) rs ends₀ starts₀ blocks ends′ starts′ end block (suc k)
       g = rw one at f
 
       v : ℕ
@@ -114,11 +121,11 @@ module _ {words : List ℕ} {l : Layout} {ends₀ starts₁ : List ℕ} {blocks 
 
       -- It begins an action or a method: one of those that are left.
       module _ (o : among t (Tag.action ∷ Tag.method ∷ []) ≡ true) where
-        pub block-left : 1 ≤ block
+        block-left : 1 ≤ block
         unfolding starts
         block-left = let few = rw (rest, opens-is o) at (fewer-starts k 0 k rs) in omega (arith, g .left, q .counted)
 
-        pub filled-open : Filled (l .rows) rs ends₀ starts₀ blocks (set ends′ k end) (set starts′ (block - 1) k) k (block - 1) k
+        filled-open : Filling (l .rows) rs ends₀ starts₀ blocks (set ends′ k end) (set starts′ (block - 1) k) k (block - 1) k
         unfolding starts upTo
         filled-open =
             let b : block ≡ suc (block - 1) = omega (arith, block-left) in
@@ -139,7 +146,7 @@ module _ {words : List ℕ} {l : Layout} {ends₀ starts₁ : List ℕ} {blocks 
       -- It begins a node, or nothing.
       module _ (o : among t (Tag.action ∷ Tag.method ∷ []) ≡ false) where
         filled-same : (end′ : ℕ) → end′ ≤ l .rows → end′ ≡ k + length (upTo marks (drop k rs))
-            → Filled (l .rows) rs ends₀ starts₀ blocks (set ends′ k end) starts′ end′ block k
+            → Filling (l .rows) rs ends₀ starts₀ blocks (set ends′ k end) starts′ end′ block k
         unfolding starts
         filled-same end′ h e = record {
           inside = omega (arith, g .inside);
@@ -152,10 +159,97 @@ module _ {words : List ℕ} {l : Layout} {ends₀ starts₁ : List ℕ} {blocks 
           starts-length = g .starts-length;
         }
 
-        pub filled-node : t ≡ Tag.node → Filled (l .rows) rs ends₀ starts₀ blocks (set ends′ k end) starts′ k block k
+        filled-node : t ≡ Tag.node → Filling (l .rows) rs ends₀ starts₀ blocks (set ends′ k end) starts′ k block k
         unfolding upTo
         filled-node e = filled-same k (omega (arith, g .inside)) (rw (rest, opens-is o, eq-eqb t Tag.node e, add-zero))
 
-        pub filled-other : t ≢ Tag.node → Filled (l .rows) rs ends₀ starts₀ blocks (set ends′ k end) starts′ end block k
+        filled-other : t ≢ Tag.node → Filling (l .rows) rs ends₀ starts₀ blocks (set ends′ k end) starts′ end block k
         unfolding upTo
         filled-other e = filled-same end (g .end-inside) (rw (rest, opens-is o, ne-eqb t Tag.node e) (omega (arith, g .end-is)))
+
+-- The same of one table, whose first part is the ends and whose second the starts.
+module _ {words : List ℕ} {l : Layout} {table₁ : List ℕ} {blocks : ℕ} (q : Indexable words l table₁ blocks) where
+  abbrev rows : List Row
+  rows = rowsOf (l .sizes) (l .rows) words
+
+  rooms : Rooms words l (take mostRows table₁) (startsIn table₁) blocks
+  rooms = record {
+    fits = q .fits;
+    ends-fit = omega (arith, q .few, q .room, length-take-le mostRows table₁ (omega (arith, q .room)));
+    starts-fit = omega (arith, q .room, length-drop mostRows table₁);
+    counted = q .counted;
+  }
+
+  -- From row `i` on the table is filled in: `end` is the next row that begins a part, and `block` actions and methods are left.
+  pub record FilledFrom (table : List ℕ) (end block i : ℕ) : Type 0 where
+    pub parts : Filling (l .rows) rows (take mostRows table₁) (set (startsIn table₁) blocks (l .rows)) blocks (take mostRows table) (startsIn table) end block i
+    pub size : length table ≡ length table₁
+
+  -- The end mark is set first.
+  pub from-none : FilledFrom (set table₁ (mostRows + blocks) (l .rows)) (l .rows) blocks (l .rows)
+  from-none = record {
+    parts =
+        subst (λ (e : List ℕ). Filling (l .rows) rows (take mostRows table₁) (set (startsIn table₁) blocks (l .rows)) blocks e
+        (startsIn (set table₁ (mostRows + blocks) (l .rows))) (l .rows) blocks (l .rows))
+        (sym (take-set-le mostRows table₁ (mostRows + blocks) (l .rows) (omega arith)))
+        (subst (λ (e : List ℕ). Filling (l .rows) rows (take mostRows table₁) (set (startsIn table₁) blocks (l .rows)) blocks (take mostRows table₁) e (l .rows) blocks (l .rows))
+        (sym (drop-set-add mostRows table₁ blocks (l .rows))) (filled-none rooms));
+    size = length-set table₁ (mostRows + blocks) (l .rows);
+  }
+
+  module _ {table : List ℕ} {end block i : ℕ} (f : FilledFrom table end block i) where
+    pub within : (i ≤ l .rows) × (end ≤ l .rows)
+    within = (f .parts .inside, f .parts .end-inside)
+
+    -- The words that the next row writes stand in the table.
+    pub room-is : mostRows + blocks < length table
+    room-is = omega (arith, f .size, q .room)
+
+    pub blocks-left : block ≤ blocks
+    blocks-left = omega (arith, f .parts .left)
+
+    pub from-all : i ≤ 0 → Filled words l blocks table₁ table
+    from-all h =
+        let a = filled-all rooms (f .parts) h in
+        let long = rows-length (l .sizes) (l .rows) words (q .fits) in
+        record {
+          size = f .size;
+          ends-are =
+              sym (take-take (l .rows) mostRows table (q .few))
+              ∙ ap (take (l .rows)) (a .0)
+              ∙ take-at (ends 0 rows) (drop (l .rows) (take mostRows table₁)) (l .rows) (ends-length rows 0 ∙ long);
+          starts-are =
+              ap (take (suc blocks)) (a .1)
+              ∙ ap (λ (k : ℕ). take k (starts 0 rows ++ (l .rows ∷ drop (suc blocks) (startsIn table₁)))) {x = suc blocks} {y = length (starts 0 rows) + 1} (omega (arith, q .counted))
+              ∙ take-append-add (starts 0 rows) (l .rows ∷ drop (suc blocks) (startsIn table₁)) 1;
+        }
+
+    -- The row before, with the tag `t`.
+    module _ {k t : ℕ} (one : i ≡ suc k) (is : t ≡ getD words (l .sizes + k) 0) where
+      few : k < mostRows
+      few = omega (arith, f .parts .inside, q .few)
+
+      ends-set : take mostRows (set table k end) ≡ set (take mostRows table) k end
+      ends-set = take-set-lt mostRows table k end few
+
+      starts-kept : startsIn (set table k end) ≡ startsIn table
+      starts-kept = drop-set-lt mostRows table k end few
+
+      module _ (o : among t (Tag.action ∷ Tag.method ∷ []) ≡ true) where
+        pub open-left : 1 ≤ block
+        open-left = block-left rooms (f .parts) one is o
+
+        pub from-open : FilledFrom (set (set table k end) (mostRows + (block - 1)) k) k (block - 1) k
+        from-open = record {
+          parts =
+              rw (take-set-le mostRows (set table k end) (mostRows + (block - 1)) k (omega arith), drop-set-add mostRows (set table k end) (block - 1) k, ends-set, starts-kept)
+              (filled-open rooms (f .parts) one is o);
+          size = length-set (set table k end) (mostRows + (block - 1)) k ∙ length-set table k end ∙ f .size;
+        }
+
+      module _ (o : among t (Tag.action ∷ Tag.method ∷ []) ≡ false) where
+        pub from-node : t ≡ Tag.node → FilledFrom (set table k end) k block k
+        from-node e = record { parts = rw (ends-set, starts-kept) (filled-node rooms (f .parts) one is o e); size = length-set table k end ∙ f .size }
+
+        pub from-other : t ≢ Tag.node → FilledFrom (set table k end) end block k
+        from-other e = record { parts = rw (ends-set, starts-kept) (filled-other rooms (f .parts) one is o e); size = length-set table k end ∙ f .size }

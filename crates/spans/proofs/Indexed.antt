@@ -4,11 +4,11 @@ use Prim.Native.Nat.{ℕ, suc, _+_, _<_, _≤_}
 use native.Mathlib.Omega.{arith}
 use mathlib.Core.Path.{_≡_, refl, sym, ap, _∙_}
 use mathlib.Core.Bool.{true, false}
-use mathlib.Core.List.{List, [], _∷_, _++_, map, zipWith}
+use mathlib.Core.List.{List, [], _∷_, _++_, map}
 use lib.ListN.{length, getD, length-append, length-map, List·getD-append, List·getD-map}
 use lib.Seq.{getD-append-add}
 use Rattle.hgn.specs.Lists.{any, keep, upTo, parts}
-use Rattle.hgn.specs.Rows.{Row, row, has}
+use Rattle.hgn.specs.Rows.{Row, row, has, mostRows}
 use Rattle.hgn.specs.Tag as Tag
 use Rattle.hgn.specs.Meaning.{opens, headed, firstValue, literals, nodesOf, actionOf, methodOf, domainOf}
 use Rattle.hgn.specs.Questions.{passed}
@@ -23,8 +23,7 @@ use Rattle.hgn.proofs.Readback.{actions-kept, methods-kept}
 use Rattle.hgn.proofs.WrittenSheets as Written
 use Rattle.hgn.proofs.WrittenSheets.{shop-parts, shop-rules, order-opens-none, order-rules}
 use Rattle.reading.specs.declared.position.Sheet.the-variants as Of
-use Rattle.spans.specs.declared.index.Span.{Span}
-use Rattle.spans.specs.Index.{starts, ends, span, Indexable, layoutOf, tagsOf, valuesOf}
+use Rattle.spans.specs.Index.{starts, ends, span, Indexable, layoutOf, spanOf, tagsOf, valuesOf, spanRows}
 use Rattle.scan.proofs.Lookup.{rows-length}
 use Rattle.spans.proofs.Spans.{span-upto, bounds, Until, until-suc, NodesFrom, starts-count, block-span, first-node, columns-span}
 
@@ -98,16 +97,15 @@ module _ (shop : List ℕ) (e : Shop.checkShop shop ≡ passed) where
       ∙ block-span (shopRows shop) (Shop.actionCount shop + m) (omega (arith, blocks-count)))
 
   -- A shop sheet that passed can be indexed.
-  pub shop-indexable : {ends′ starts′ : List ℕ} → Shop.rowCount shop ≤ length ends′ → Shop.actionCount shop + Shop.methodCount shop < length starts′
-      → Indexable shop (layoutOf Of.Shop shop) ends′ starts′ (Shop.actionCount shop + Shop.methodCount shop)
+  pub shop-indexable : {table : List ℕ} → mostRows + (Shop.actionCount shop + Shop.methodCount shop) < length table
+      → Indexable shop (layoutOf Of.Shop shop) table (Shop.actionCount shop + Shop.methodCount shop)
   unfolding shopRows
-  shop-indexable f s = record { fits = shop-fits; few = shop-few; ends-fit = f; starts-fit = s; counted = sym blocks-count }
+  shop-indexable r = record { fits = shop-fits; few = shop-few; room = r; counted = sym blocks-count }
 
   -- The tags and the values of a span are its rows.
   pub shop-columns : (order : List ℕ) (from to : ℕ) → from ≤ to → to ≤ Shop.rowCount shop →
-      let s : Span = record { sheet = Of.Shop; from = from; to = to } in
-      zipWith row (tagsOf s shop order) (valuesOf s shop order) ≡ span (shopRows shop) from to
-  unfolding tagsOf valuesOf shopRows
+      spanRows shop order (spanOf Of.Shop from to) ≡ span (shopRows shop) from to
+  unfolding spanRows tagsOf valuesOf shopRows
   shop-columns order from to f t = columns-span shop (layoutOf Of.Shop shop) from to f t shop-fits
 
 -- Rows that begin no action and no method.
@@ -120,7 +118,7 @@ none-open (r ∷ rows) i e =
     rw (a .0) (ih .0, ap (_∷_ r) (ih .1))
 
 module _ (shop sheet : List ℕ) (e : Order.checkOrder shop sheet ≡ passed) where
-  order-fits : Order.sizeWords + (Order.rowCount sheet + Order.rowCount sheet) ≤ length sheet
+  pub order-fits : Order.sizeWords + (Order.rowCount sheet + Order.rowCount sheet) ≤ length sheet
   order-fits = omega (arith, order-passed shop sheet e .size)
 
   none-opens : (starts 0 (orderRows sheet) ≡ []) × (upTo opens (orderRows sheet) ≡ (orderRows sheet))
@@ -155,12 +153,11 @@ module _ (shop sheet : List ℕ) (e : Order.checkOrder shop sheet ≡ passed) wh
   order-nodes-later h o =
       first-node (orderRows sheet) 0 (Order.rowCount sheet) (omega (arith, order-length)) (until-suc (orderRows sheet) 0 (Order.rowCount sheet) order-until h) o
 
-  pub order-indexable : {ends′ starts′ : List ℕ} → Order.rowCount sheet ≤ length ends′ → 0 < length starts′ → Indexable sheet (layoutOf Of.Order sheet) ends′ starts′ 0
+  pub order-indexable : {table : List ℕ} → mostRows < length table → Indexable sheet (layoutOf Of.Order sheet) table 0
   unfolding orderRows
-  order-indexable f s = record { fits = order-fits; few = order-few; ends-fit = f; starts-fit = s; counted = sym (ap length order-starts) }
+  order-indexable r = record { fits = order-fits; few = order-few; room = r; counted = sym (ap length order-starts) }
 
   pub order-columns : (from to : ℕ) → from ≤ to → to ≤ Order.rowCount sheet →
-      let s : Span = record { sheet = Of.Order; from = from; to = to } in
-      zipWith row (tagsOf s shop sheet) (valuesOf s shop sheet) ≡ span (orderRows sheet) from to
-  unfolding tagsOf valuesOf orderRows
+      spanRows shop sheet (spanOf Of.Order from to) ≡ span (orderRows sheet) from to
+  unfolding spanRows tagsOf valuesOf orderRows
   order-columns from to f t = columns-span sheet (layoutOf Of.Order sheet) from to f t order-fits

@@ -2,3 +2,7 @@
 pub mod Spans
 pub mod Fills
 pub mod Indexed
+pub mod NodeWalks
+pub mod NodeParts
+pub mod Tables
+pub mod OperatorRows

@@ -3,11 +3,11 @@
 use Prim.Native.Nat.{ℕ, suc, _+_, _-_, _<_, _≤_}
 use mathlib.Core.Path.{_≡_}
 use mathlib.Core.Bool.{Bool, cond, _&&_, _||_}
-use mathlib.Core.List.{List, [], _∷_}
+use mathlib.Core.List.{List, [], _∷_, _++_, zipWith}
 use lib.Dec.{leb}
 use lib.ListN.{length, take, drop}
 use Rattle.hgn.specs.Lists.{upTo}
-use Rattle.hgn.specs.Rows.{Row, has, rowsOf, mostRows}
+use Rattle.hgn.specs.Rows.{Row, row, has, rowsOf, mostRows}
 use Rattle.hgn.specs.Tag as Tag
 use Rattle.hgn.specs.Meaning.{opens}
 use Rattle.hgn.specs.Shop as Shop
@@ -31,18 +31,31 @@ unfoldable pub ends : ℕ → List Row → List ℕ
 ends i [] = []
 ends i (r ∷ rs) = (suc i + length (upTo marks rs)) ∷ ends (suc i) rs
 
--- What the index of a sheet's rows needs: the rows in the words, room for their ends, and room for the starts of their actions and
--- methods, `blocks` of them, with one more.
-pub record Indexable (words : List ℕ) (l : Layout) (ends′ starts′ : List ℕ) (blocks : ℕ) : Type 0 where
+-- The starts stand behind room for the ends of the most rows.
+abbrev pub startsIn : List ℕ → List ℕ
+startsIn table = drop mostRows table
+
+-- What the index of a sheet's rows needs: the rows in the words, and room for their ends and for the starts of their actions and methods,
+-- `blocks` of them, with one more.
+pub record Indexable (words : List ℕ) (l : Layout) (table : List ℕ) (blocks : ℕ) : Type 0 where
   pub fits : l .sizes + (l .rows + l .rows) ≤ length words
   pub few : l .rows ≤ mostRows
-  pub ends-fit : l .rows ≤ length ends′
-  pub starts-fit : blocks < length starts′
+  pub room : mostRows + blocks < length table
   pub counted : blocks ≡ length (starts 0 (rowsOf (l .sizes) (l .rows) words))
+
+-- What the table says once it is filled; words of it that are not named are left free.
+pub record Filled (words : List ℕ) (l : Layout) (blocks : ℕ) (before after : List ℕ) : Type 0 where
+  pub size : length after ≡ length before
+  pub ends-are : take (l .rows) after ≡ ends 0 (rowsOf (l .sizes) (l .rows) words)
+  pub starts-are : take (suc blocks) (startsIn after) ≡ starts 0 (rowsOf (l .sizes) (l .rows) words) ++ (l .rows ∷ [])
 
 -- The elements from `a` up to `e`: rows of a sheet, or words.
 unfoldable pub span : {A : Type 0} → List A → ℕ → ℕ → List A
 span xs a e = take (e - a) (drop a xs)
+
+-- Rows `from` up to `to` of a sheet.
+abbrev pub spanOf : Sheet → ℕ → ℕ → Span
+spanOf sheet from to = record { sheet = sheet; from = record { 0 = from }; to = record { 0 = to } }
 
 -- The words of the sheet, and where its rows stand.
 abbrev pub wordsOf : Sheet → List ℕ → List ℕ → List ℕ
@@ -64,11 +77,16 @@ unfoldable pub tagsOf : Span → List ℕ → List ℕ → List ℕ
 tagsOf s shop order =
     let words = wordsOf (s .sheet) shop order in
     let layout = layoutOf (s .sheet) words in
-    columnPart words layout (layout .sizes) (s .from) (s .to)
+    columnPart words layout (layout .sizes) (s .from .0) (s .to .0)
 
 -- The values of a span.
 unfoldable pub valuesOf : Span → List ℕ → List ℕ → List ℕ
 valuesOf s shop order =
     let words = wordsOf (s .sheet) shop order in
     let layout = layoutOf (s .sheet) words in
-    columnPart words layout (layout .sizes + layout .rows) (s .from) (s .to)
+    columnPart words layout (layout .sizes + layout .rows) (s .from .0) (s .to .0)
+
+-- The rows of a span.
+unfoldable pub spanRows : List ℕ → List ℕ → Span → List Row
+unfolding zipWith
+spanRows shop order s = zipWith row (tagsOf s shop order) (valuesOf s shop order)

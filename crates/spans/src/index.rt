@@ -7,42 +7,48 @@ use scan::rows::word;
 use sheets::check::Order;
 use sheets::check::Shop;
 ghost use mathlib.Core.Path.{_≡_};
-ghost use mathlib.Core.List.{_∷_, _++_};
-ghost use Prim.Native.Nat.{suc, _+_, _≤_};
-ghost use lib.ListN.{drop};
-ghost use Rattle.hgn.specs.Rows.{rowsOf};
-ghost use Rattle.spans.specs.Index as Index;
-ghost use Rattle.spans.specs.Index.{Indexable, wordsOf, layoutOf, columnPart, tagsOf, valuesOf};
+ghost use Prim.Native.Nat.{_+_, _≤_};
+ghost use Rattle.spans.specs.Index.{Indexable, Filled, wordsOf, layoutOf, columnPart, tagsOf, valuesOf};
 
 // Rows `from` up to `to` of a sheet: an action, a method, a node.
 pub struct Span {
     pub sheet: Sheet,
-    pub from: u16,
-    pub to: u16,
+    pub from: Row,
+    pub to: Row,
 }
 
-// For each row, into `ends`, the next row that begins an action, a method or a node; and where each action and method starts, into
-// `starts`, with the end behind them. From the last row to the first: `end` is that next row.
-pub fn fill(words: &[u16], layout: Layout, ends: &mut [u16], starts: &mut [u16], blocks: usize)
-    requires { ⌜ Indexable (now words) layout (now ends) (now starts) blocks ⌝ }
-    ensures { λ _. ⌜ now (ends .exit) ≡ Index.ends 0 (rowsOf (layout .sizes) (layout .rows) (now (words .entry))) ++ drop (layout .rows) (now (ends .entry)) ⌝ }
-    ensures { λ _. ⌜ now (starts .exit) ≡ Index.starts 0 (rowsOf (layout .sizes) (layout .rows) (now (words .entry))) ++ (layout .rows ∷ drop (suc blocks) (now (starts .entry))) ⌝ }
+// Where the parts of a sheet stand, in one table of words: first the ends, for each row the next row that begins an action, a method or
+// a node; behind room for the ends of the most rows the starts, where each action and each method begins, with the end of the last.
+pub struct Tables {}
+
+impl Tables {
+    // Where the starts begin.
+    pub const STARTS: usize = Layout::MOST_ROWS as usize;
+    // Room for the ends and the starts of every sheet.
+    pub const WORDS: usize = Self::STARTS + Shop::MOST_BLOCKS + 1;
+}
+
+// The table of a sheet with so many actions and methods, filled from its last row to its first: `end` is the next row that begins a part.
+pub fn fill(words: &[u16], layout: Layout, tables: &mut [u16], blocks: usize)
+    requires { ⌜ Indexable (now words) layout (now tables) blocks ⌝ }
+    ensures { λ _. ⌜ Filled (now (words .entry)) layout blocks (now (tables .entry)) (now (tables .exit)) ⌝ }
 {
-    let rows = layout.rows;
-    starts[blocks] = rows as u16;
+    let rows = layout.rows as u16;
+    tables[Tables::STARTS + blocks] = rows;
     let mut end = rows;
     let mut block = blocks;
-    let mut i = rows;
-    while 0 < i {
-        i -= 1;
-        let tag = layout.tag(words, Row(i));
-        ends[i] = end as u16;
+    let mut row = rows;
+    while 0 < row {
+        row -= 1;
+        let at = row as usize;
+        let tag = layout.tag(words, Row(row));
+        tables[at] = end;
         if tag::one_of_2(tag, tag::ACTION, tag::METHOD) {
-            end = i;
+            end = row;
             block -= 1;
-            starts[block] = i as u16;
+            tables[Tables::STARTS + block] = row;
         } else if tag == tag::NODE {
-            end = i;
+            end = row;
         }
     }
 }
@@ -80,14 +86,14 @@ pub fn layout_of(sheet: Sheet, words: &[u16]) -> Layout
 }
 
 // Rows `from` up to `to` of the tags or of the values, which stand from word `column` on; none where the sheet has no such rows.
-fn column_part(words: &[u16], layout: Layout, column: usize, from: u16, to: u16) -> &[u16]
+fn column_part(words: &[u16], layout: Layout, column: usize, from: Row, to: Row) -> &[u16]
     requires { ⌜ (layout .sizes ≤ 4) × (layout .rows ≤ 65535) × (column ≤ layout .sizes + layout .rows) ⌝ }
-    ensures { λ r. ⌜ now r ≡ columnPart (now (words .entry)) layout column from to ⌝ }
+    ensures { λ r. ⌜ now r ≡ columnPart (now (words .entry)) layout column (from .0) (to .0) ⌝ }
 {
-    let start = column + from as usize;
-    let end = column + to as usize;
-    if from <= to {
-        if to as usize <= layout.rows {
+    let start = column + from.0 as usize;
+    let end = column + to.0 as usize;
+    if from.0 <= to.0 {
+        if to.0 as usize <= layout.rows {
             if layout.sizes + (layout.rows + layout.rows) <= words.len() {
                 return &words[start..end];
             }

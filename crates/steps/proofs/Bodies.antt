@@ -24,7 +24,7 @@ use Rattle.hgn.proofs.Steps as Steps
 use Rattle.hgn.proofs.Steps.{some-free, step-passed}
 use Rattle.hgn.proofs.Waiting.{length-enter}
 use Rattle.spans.specs.declared.index.Span.{Span}
-use Rattle.formulas.specs.Spanned.{spanRows}
+use Rattle.spans.specs.Index.{spanRows}
 use Rattle.steps.specs.Moves.{knownOf, moveRead}
 use Rattle.steps.specs.Deciding.{Faces, Room}
 use Rattle.steps.specs.declared.moves.Move.{Move}

@@ -1,18 +1,19 @@
 -- What is decided of a step, question by question, and how a method's questions are answered from its rows. Assumes nothing.
-use Prim.Native.Nat.{ℕ, _+_, _-_, _<_, _≤_}
+use Prim.Native.Nat.{ℕ, _+_, _<_, _≤_}
 use native.Mathlib.Omega.{arith}
 use mathlib.Core.Path.{_≡_, refl, sym, ap, _∙_}
 use mathlib.Core.Bool.{Bool, true, false, cond}
 use mathlib.Core.List.{List}
-use lib.ListN.{length, getD}
+use lib.ListN.{length}
 use borrow.Author.Tests.{ne-eqb}
 use Rattle.hgn.specs.Questions as Questions
 use Rattle.hgn.specs.Questions.{_asks_, passed, firstNo, told}
+use Rattle.hgn.specs.Tag as Tag
 use Rattle.hgn.specs.Meaning as Meaning
 use Rattle.hgn.specs.Meaning.{literals, nodeOf, goalOf, networkOf}
 use Rattle.hgn.specs.State.{State, allHold, relevant}
 use Rattle.hgn.specs.Network as Network
-use Rattle.hgn.specs.Network.{goalAt, free, anyFree}
+use Rattle.hgn.specs.Network.{mostWaiting, goalAt, free, anyFree}
 use Rattle.hgn.specs.Run as Run
 use Rattle.hgn.specs.Run.{Problem, refused, moveOf, actionAt, methodAt, ownQuestions}
 use Rattle.hgn.specs.Shop.{domain, actionCount, methodCount}
@@ -22,15 +23,15 @@ use Rattle.reading.specs.Refusals.{refusalOf}
 use Rattle.reading.specs.declared.refusal.Refusal.{Refusal}
 use Rattle.reading.specs.declared.position.Sheet.the-variants as Of
 use Rattle.spans.specs.declared.index.Span.{Span}
-use Rattle.formulas.specs.Spanned.{spanRows}
+use Rattle.spans.specs.Index.{spanOf, spanRows}
 use Rattle.network.specs.Entries.{waitingOf, entriesOf, listOf}
 use Rattle.freeness.specs.Seeing.{Sees}
-use Rattle.network.specs.Entering.{Bounds, Walk, Counted}
+use Rattle.spans.specs.Tables.{Indexed, Bounds, Walk, NodesCounted, MethodAt}
+use Rattle.spans.specs.declared.operators.Nodes.{Nodes}
+use Rattle.spans.specs.declared.operators.MethodRows.{MethodRows}
 use Rattle.steps.specs.Moves.{Known, knownOf, readOf, moveRead}
-use Rattle.network.specs.Tables.{Indexed}
 use Rattle.steps.specs.Steps.{problemIn}
 use Rattle.steps.specs.Deciding.{Faces, Answers, OfAction, toldOf, SeenIn, Decides}
-use Rattle.network.specs.declared.enter.Nodes.{Nodes}
 use Rattle.freeness.specs.declared.free.Seen.{Seen}
 use Rattle.steps.specs.declared.moves.Move.{Move}
 use Rattle.steps.specs.declared.moves.Move.the-variants.{Release, Act, Use}
@@ -38,11 +39,11 @@ use Rattle.steps.specs.declared.moves.Read.{Read}
 use Rattle.steps.specs.declared.moves.Read.the-variants.{Is, Unreadable}
 use Rattle.steps.specs.declared.problem.Problem as Code
 use Rattle.steps.specs.declared.questions.Decision.the-variants.{Refused, Takes}
-use Rattle.network.proofs.Tables.{shop-passes}
+use Rattle.spans.proofs.Tables.{shop-passes}
 use Rattle.network.proofs.Goals.{entries-length, list-length, goal-is}
-use Rattle.network.proofs.Uses.{MethodAt, method-size}
+use Rattle.spans.proofs.OperatorRows.{method-size}
 use Rattle.steps.proofs.Bodies.{read-by-counts, step-25, step-26, step-27, step-28, own-refuses, own-takes, own-room, use-30, use-31, use-32, use-passed}
-use Rattle.steps.proofs.Actions.{known-read, known-action, action-rows}
+use Rattle.steps.proofs.Actions.{known-read}
 
 -- The number of a move's own refusal is neither 0 nor 28.
 module _ (shop : List ℕ) (n p : ℕ) (P : Problem) where
@@ -79,7 +80,7 @@ pub read-known : (shop : List ℕ) (move actions methods : ℕ) → actions ≡ 
 read-known shop move actions methods a b reading reads {m} e = known-read move _ _ m (sym (ap readOf e) ∙ reads ∙ rw (a, b))
 
 -- What is decided of a step, question by question.
-module _ {shop order endTable startTable : List ℕ} (ix : Indexed shop order endTable startTable) (s : State) (count move p : ℕ) (seen : Seen)
+module _ {shop order table : List ℕ} (ix : Indexed shop order table) (s : State) (count move p : ℕ) (seen : Seen)
     (P : Problem) (look : SeenIn shop order s count seen P p) where
   pub decide-past : count ≤ p → (r : Refusal) → refusalOf r ≡ (25 asks false) .refusal → Decides shop P move p (Refused r)
   decide-past h r e n = step-25 (rulesOf shop) n P move p (omega (arith, look .size)) ∙ ap (λ (q : Questions.Refusal). refused (toldOf (P .waiting) q)) (sym e)
@@ -131,36 +132,35 @@ module _ {shop order endTable startTable : List ℕ} (ix : Indexed shop order en
             (sym (ne-eqb (r .number) 28 (λ y. let o = t .1 in omega arith)))
 
 -- A move's own questions, by its cases.
-module _ {shop order endTable startTable : List ℕ} (ix : Indexed shop order endTable startTable) (s : State) (goal : Span) (count : ℕ) where
+module _ (shop order : List ℕ) (s : State) (goal : Span) (count : ℕ) where
   pub of-release : {m : Move} {r : Refusal} → m ≡ Release → Answers shop order s goal count Run.release r → Answers shop order s goal count (knownOf m) r
   of-release e said = rw e said
 
-  pub of-action : {m : Move} {k : ℕ} {r : Refusal} → Known (actionCount shop) (methodCount shop) m → m ≡ Act k
-      → OfAction shop order s (record { sheet = Of.Shop; from = getD startTable (k - 1) 0; to = getD startTable k 0 }) goal r
-      → Answers shop order s goal count (knownOf m) r
-  of-action {k = k} known e said = let g = known-action ix known e in rw e (said k count (action-rows ix k (g .0) (g .1)))
+  pub of-action : {m : Move} {k : ℕ} (rows : Span) {r : Refusal} → m ≡ Act k → actionAt (domain shop) k ≡ Meaning.actionOf (spanRows shop order rows)
+      → OfAction shop order s rows goal r → Answers shop order s goal count (knownOf m) r
+  of-action {k = k} rows e is said = rw e (said k count is)
 
   pub of-method : {m : Move} {k : ℕ} {r : Refusal} → m ≡ Use k → Answers shop order s goal count (Run.use-method k) r
       → Answers shop order s goal count (knownOf m) r
   of-method e said = rw e said
 
 -- A method's questions from its rows.
-module _ {shop order table : List ℕ} {m from to first : ℕ} (a : MethodAt shop order table m from to first) (s : State) (goal : Span) (count : ℕ)
+module _ {shop order table : List ℕ} {m : ℕ} {rows : MethodRows} (a : MethodAt shop order table m rows) (s : State) (goal : Span) (count : ℕ)
     (r : Refusal) {able v : Bool}
-    (needs : able ≡ allHold s (literals 3 4 (spanRows shop order (record { sheet = Of.Shop; from = from; to = first })))) (is : able ≡ v) where
+    (needs : able ≡ allHold s (literals Tag.needsTrue Tag.needsFalse (spanRows shop order (spanOf Of.Shop (rows .from .0) (rows .first .0))))) (is : able ≡ v) where
   asked-needs : allHold s (methodAt (domain shop) m .needs) ≡ v
   asked-needs = sym (sym is ∙ needs ∙ ap (allHold s) (a .needs))
 
   pub method-unable : v ≡ false → refusalOf r ≡ (30 asks false) .refusal → Answers shop order s goal count (Run.use-method m) r
   method-unable e z n P p f = z ∙ sym (ap told (use-30 shop order s goal count n p P f m (asked-needs ∙ e)))
 
-  module _ (yes : v ≡ true) (nodes : Nodes) (counted : (bs : List Bounds) → Walk table to first bs → Counted to bs nodes) {helps u : Bool}
-      (said : helps ≡ relevant (literals 9 10 (spanRows shop order (record { sheet = Of.Shop; from = nodes .last; to = to }))) (nodeOf (spanRows shop order goal) .formula))
+  module _ (yes : v ≡ true) (nodes : Nodes) (counted : (bs : List Bounds) → Walk table (rows .end .0) (rows .first .0) bs → NodesCounted (rows .end .0) bs nodes) {helps u : Bool}
+      (said : helps ≡ relevant (literals Tag.wantedTrue Tag.wantedFalse (spanRows shop order (spanOf Of.Shop (nodes .last .0) (rows .end .0)))) (nodeOf (spanRows shop order goal) .formula))
       (tells : helps ≡ u) where
     asked-goal : relevant (goalOf (methodAt (domain shop) m)) (nodeOf (spanRows shop order goal) .formula) ≡ u
     asked-goal =
         let i = counted (a .bs) (a .walk) .last-is (λ z. absurd (omega (arith, a .some))) in
-        sym (sym tells ∙ said ∙ ap (λ l. relevant l (nodeOf (spanRows shop order goal) .formula)) (sym (a .goal (i .0) (nodes .last) (i .1))))
+        sym (sym tells ∙ said ∙ ap (λ l. relevant l (nodeOf (spanRows shop order goal) .formula)) (sym (a .goal (i .0) (nodes .last .0) (i .1))))
 
     pub method-irrelevant : u ≡ false → refusalOf r ≡ (31 asks false) .refusal → Answers shop order s goal count (Run.use-method m) r
     method-irrelevant e z n P p f = z ∙ sym (ap told (use-31 shop order s goal count n p P f m (asked-needs ∙ yes) (asked-goal ∙ e)))
@@ -168,19 +168,13 @@ module _ {shop order table : List ℕ} {m from to first : ℕ} (a : MethodAt sho
     size : length (networkOf (methodAt (domain shop) m)) ≡ nodes .count
     size = method-size a ∙ sym (counted (a .bs) (a .walk) .number)
 
-    pub method-may : u ≡ true → count + nodes .count ≤ 64 → refusalOf r ≡ told passed → Answers shop order s goal count (Run.use-method m) r
+    pub method-may : u ≡ true → count + nodes .count ≤ mostWaiting → refusalOf r ≡ told passed → Answers shop order s goal count (Run.use-method m) r
     method-may e h z n P p f =
         z ∙ sym (ap told (use-passed shop order s goal count n p P f m (asked-needs ∙ yes) (asked-goal ∙ e) (omega (arith, size))))
 
-    pub method-crowded : u ≡ true → 64 < count + nodes .count → refusalOf r ≡ (32 asks false) .refusal → Answers shop order s goal count (Run.use-method m) r
+    pub method-crowded : u ≡ true → mostWaiting < count + nodes .count → refusalOf r ≡ (32 asks false) .refusal → Answers shop order s goal count (Run.use-method m) r
     method-crowded e h z n P p f =
         z ∙ sym (ap told (use-32 shop order s goal count n p P f m (asked-needs ∙ yes) (asked-goal ∙ e) (omega (arith, size))))
-
--- An action's effects from its rows.
-pub effects-are : {shop order endTable startTable : List ℕ} → Indexed shop order endTable startTable → (k : ℕ) → 1 ≤ k → k ≤ actionCount shop
-    → literals 5 6 (spanRows shop order (record { sheet = Of.Shop; from = getD startTable (k - 1) 0; to = getD startTable k 0 })) ≡ actionAt (domain shop) k .effects
-unfolding Meaning.actionOf
-effects-are ix k low high = ap (λ (x : Meaning.Action). x .effects) (sym (action-rows ix k low high))
 
 -- What was seen in the code's record.
 pub seen-in : (shop order : List ℕ) (b : Code.Problem) → length (b .waiting .entries) ≡ 64 → b .waiting .count ≤ 64 → (p : ℕ) (seen : Seen)

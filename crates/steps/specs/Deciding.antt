@@ -19,7 +19,7 @@ use Rattle.hgn.specs.Replay.{rulesOf}
 use Rattle.reading.specs.Refusals.{refusalOf}
 use Rattle.reading.specs.declared.refusal.Refusal.{Refusal}
 use Rattle.spans.specs.declared.index.Span.{Span}
-use Rattle.formulas.specs.Spanned.{spanRows}
+use Rattle.spans.specs.Index.{spanRows}
 use Rattle.network.specs.Entries.{waitingOf}
 use Rattle.steps.specs.Moves.{Known, knownOf}
 use Rattle.freeness.specs.declared.free.Seen.{Seen}

@@ -1,22 +1,21 @@
 // The record that a step moves forward: the atoms and the waiting goals. Document 01, "How a derivation runs".
 use formulas::state;
 use network::waiting::Waiting;
-use reading::position::Sheet;
 use reading::refusal::Refusal;
 use reading::tag;
 use spans::index;
 use spans::index::Span;
+use spans::operators;
 ghost use mathlib.Core.Path.{_≡_};
-ghost use mathlib.Core.List.{List};
-ghost use Prim.Native.Nat.{ℕ, _≤_};
+ghost use Prim.Native.Nat.{_≤_};
 ghost use Rattle.hgn.specs.Questions.{passed, told};
 ghost use Rattle.hgn.specs.Meaning.{literals};
 ghost use Rattle.reading.specs.Refusals.{refusalOf};
 ghost use Rattle.hgn.specs.State.{γ};
 ghost use Rattle.hgn.specs.Run.{actionAt};
 ghost use Rattle.hgn.specs.Shop.{domain, actionCount};
-ghost use Rattle.formulas.specs.Spanned.{spanRows};
-ghost use Rattle.network.specs.Tables.{Indexed};
+ghost use Rattle.spans.specs.Index.{spanRows};
+ghost use Rattle.spans.specs.Tables.{Indexed};
 
 pub struct Problem {
     pub atoms: [bool; 256],
@@ -77,20 +76,13 @@ pub fn act<'a>(
     atoms: &mut [bool; 256],
     shop: &'a [u16],
     order: &'a [u16],
-    starts: &[u16],
+    tables: &[u16],
     action: u16,
 )
-    requires { ⌜ ((ends : List ℕ) × Indexed (now shop) (now order) ends (now starts)) ⌝ }
+    requires { ⌜ Indexed (now shop) (now order) (now tables) ⌝ }
     requires { ⌜ (1 ≤ action) × (action ≤ actionCount (now shop)) ⌝ }
     ensures { λ _. ⌜ now (atoms .exit) ≡ γ (now (atoms .entry)) (actionAt (domain (now (shop .entry))) action .effects) ⌝ }
 {
-    let at = action as usize;
-    let from = starts[at - 1];
-    let to = starts[at];
-    let rows = Span {
-        sheet: Sheet::Shop,
-        from: from,
-        to: to,
-    };
+    let rows = operators::action_rows(tables, action);
     change(atoms, shop, order, rows);
 }

@@ -4,14 +4,13 @@ use crate::moves::Read;
 use formulas::parts;
 use freeness::free;
 use freeness::free::Seen;
-use network::enter;
 use network::waiting::Place;
 use network::waiting::Waiting;
-use reading::position::Sheet;
 use reading::refusal::Refusal;
 use reading::tag;
 use scan::rows::word;
 use spans::index::Span;
+use spans::operators;
 ghost use mathlib.Core.Path.{_≡_};
 ghost use Prim.Native.Nat.{_≤_, _<_};
 ghost use Rattle.hgn.specs.Run as Run;
@@ -20,7 +19,7 @@ ghost use Rattle.hgn.specs.Shop.{actionCount, methodCount};
 ghost use Rattle.reading.specs.Refusals.{refusalOf};
 ghost use Rattle.network.specs.Entries.{listOf};
 ghost use Rattle.steps.specs.Moves.{Known, knownOf};
-ghost use Rattle.network.specs.Tables.{Indexed};
+ghost use Rattle.spans.specs.Tables.{Indexed};
 ghost use Rattle.steps.specs.Deciding.{OfAction, Answers, toldOf, SeenIn, Decides};
 
 // The first question that fails, or the move that may be taken.
@@ -52,34 +51,21 @@ fn of_action<'a>(
 fn of_method<'a>(
     shop: &'a [u16],
     order: &'a [u16],
-    ends: &[u16],
-    starts: &[u16],
+    tables: &[u16],
     atoms: &[bool; 256],
     method: u16,
     goal: Span,
     count: u16,
 ) -> Refusal
-    requires { ⌜ Indexed (now shop) (now order) (now ends) (now starts) ⌝ }
+    requires { ⌜ Indexed (now shop) (now order) (now tables) ⌝ }
     requires { ⌜ (method < methodCount (now shop)) × (count ≤ 64) ⌝ }
     ensures { λ r. ⌜ Answers (now (shop .entry)) (now (order .entry)) (now (atoms .entry)) goal count (Run.use-method method) r ⌝ }
 {
-    let block = word(shop, 1) as usize + method as usize;
-    let from = starts[block];
-    let end = starts[block + 1];
-    let at = from as usize;
-    let first = ends[at];
-    let head = Span {
-        sheet: Sheet::Shop,
-        from: from,
-        to: first,
-    };
+    let rows = operators::method_rows(shop, tables, method);
+    let head = Span::of_shop(rows.from, rows.first);
     if parts::needs_hold(atoms, shop, order, head) {
-        let nodes = enter::nodes_between(ends, first, end);
-        let last = Span {
-            sheet: Sheet::Shop,
-            from: nodes.last,
-            to: end,
-        };
+        let nodes = operators::nodes_between(tables, rows.first, rows.end);
+        let last = Span::of_shop(nodes.last, rows.end);
         if parts::helps(shop, order, last, tag::WANTED_TRUE, tag::WANTED_FALSE, goal) {
             if count + nodes.count <= Waiting::MOST {
                 return Refusal::none();
@@ -95,14 +81,13 @@ fn of_method<'a>(
 pub fn of_move<'a>(
     shop: &'a [u16],
     order: &'a [u16],
-    ends: &[u16],
-    starts: &[u16],
+    tables: &[u16],
     atoms: &[bool; 256],
     known: Move,
     goal: Span,
     count: u16,
 ) -> Refusal
-    requires { ⌜ Indexed (now shop) (now order) (now ends) (now starts) ⌝ }
+    requires { ⌜ Indexed (now shop) (now order) (now tables) ⌝ }
     requires { ⌜ Known (actionCount (now shop)) (methodCount (now shop)) known × (count ≤ 64) ⌝ }
     ensures { λ r. ⌜ Answers (now (shop .entry)) (now (order .entry)) (now (atoms .entry)) goal count (knownOf known) r ⌝ }
 {
@@ -114,17 +99,10 @@ pub fn of_move<'a>(
             Refusal::by(29)
         }
         Move::Act(action) => {
-            let at = action as usize;
-            let from = starts[at - 1];
-            let to = starts[at];
-            let rows = Span {
-                sheet: Sheet::Shop,
-                from: from,
-                to: to,
-            };
+            let rows = operators::action_rows(tables, action);
             of_action(shop, order, atoms, rows, goal)
         }
-        Move::Use(method) => of_method(shop, order, ends, starts, atoms, method, goal, count),
+        Move::Use(method) => of_method(shop, order, tables, atoms, method, goal, count),
     }
 }
 
@@ -133,15 +111,14 @@ pub fn of_move<'a>(
 pub fn decide<'a>(
     shop: &'a [u16],
     order: &'a [u16],
-    ends: &[u16],
-    starts: &[u16],
+    tables: &[u16],
     atoms: &[bool; 256],
     seen: Seen,
     count: u16,
     mv: u16,
     place: Place,
 ) -> Decision
-    requires { ⌜ Indexed (now shop) (now order) (now ends) (now starts) × (count ≤ 64) ⌝ }
+    requires { ⌜ Indexed (now shop) (now order) (now tables) × (count ≤ 64) ⌝ }
     ensures { λ r. ⌜ ((P : Problem) → SeenIn (now (shop .entry)) (now (order .entry)) (now (atoms .entry)) count seen P (place .0) → Decides (now (shop .entry)) P mv (place .0) r) ⌝ }
 {
     if place.0 < count {
@@ -153,7 +130,7 @@ pub fn decide<'a>(
         };
         if seen.free {
             let goal = seen.goal;
-            let refusal = of_move(shop, order, ends, starts, atoms, known, goal.rows, count);
+            let refusal = of_move(shop, order, tables, atoms, known, goal.rows, count);
             if refusal.number == 0 {
                 return Decision::Takes(known);
             }

@@ -15,7 +15,7 @@ ghost use Rattle.hgn.specs.Shop.{domain, actionCount, methodCount};
 ghost use Rattle.hgn.specs.Replay.{rulesOf};
 ghost use Rattle.network.specs.Entries.{entryAt};
 ghost use Rattle.steps.specs.Steps.{problemIn, Applied, Asked, Is};
-ghost use Rattle.network.specs.Tables.{Indexed};
+ghost use Rattle.spans.specs.Tables.{Indexed};
 ghost use Rattle.steps.specs.Moves.{Known, knownOf};
 ghost use Rattle.steps.specs.Deciding.{Room};
 
@@ -23,15 +23,14 @@ ghost use Rattle.steps.specs.Deciding.{Room};
 fn taken<'a>(
     shop: &'a [u16],
     order: &'a [u16],
-    ends: &[u16],
-    starts: &[u16],
+    tables: &[u16],
     problem: Problem,
     number: u16,
     known: Move,
     name: Name,
     place: Place,
 ) -> Stepped
-    requires { ⌜ Indexed (now shop) (now order) (now ends) (now starts) ⌝ }
+    requires { ⌜ Indexed (now shop) (now order) (now tables) ⌝ }
     requires { ⌜ (place .0 < problem .waiting .count) × (problem .waiting .count ≤ 64) × (name ≡ entryAt (problem .waiting) (place .0) .name) ⌝ }
     requires { ⌜ Known (actionCount (now shop)) (methodCount (now shop)) known × (number < 65535) × Room (domain (now shop)) (problem .waiting .count) known ⌝ }
     ensures { λ r. ⌜ Applied (now (shop .entry)) (now (order .entry)) number (place .0) (knownOf known) problem r ⌝ }
@@ -44,11 +43,11 @@ fn taken<'a>(
             Stepped::taken(atoms, next)
         }
         Move::Act(action) => {
-            problem::act(&mut atoms, shop, order, starts, action);
+            problem::act(&mut atoms, shop, order, tables, action);
             Stepped::taken(atoms, waiting)
         }
         Move::Use(method) => {
-            let next = waiting.decomposed(shop, ends, starts, number, method, name, place);
+            let next = waiting.decomposed(shop, tables, number, method, name, place);
             Stepped::taken(atoms, next)
         }
     }
@@ -58,14 +57,13 @@ fn taken<'a>(
 pub fn take_move<'a>(
     shop: &'a [u16],
     order: &'a [u16],
-    ends: &[u16],
-    starts: &[u16],
+    tables: &[u16],
     problem: Problem,
     number: u16,
     known: Move,
     place: Place,
 ) -> Stepped
-    requires { ⌜ Indexed (now shop) (now order) (now ends) (now starts) ⌝ }
+    requires { ⌜ Indexed (now shop) (now order) (now tables) ⌝ }
     requires { ⌜ (place .0 < problem .waiting .count) × (problem .waiting .count ≤ 64) ⌝ }
     requires { ⌜ Known (actionCount (now shop)) (methodCount (now shop)) known × (number < 65535) ⌝ }
     ensures { λ r. ⌜ Asked (now (shop .entry)) (now (order .entry)) number (place .0) (knownOf known) problem r ⌝ }
@@ -76,8 +74,7 @@ pub fn take_move<'a>(
     let refusal = questions::of_move(
         shop,
         order,
-        ends,
-        starts,
+        tables,
         &atoms,
         known,
         goal.rows,
@@ -87,8 +84,7 @@ pub fn take_move<'a>(
         return taken(
             shop,
             order,
-            ends,
-            starts,
+            tables,
             problem,
             number,
             known,
@@ -103,14 +99,13 @@ pub fn take_move<'a>(
 pub fn step<'a>(
     shop: &'a [u16],
     order: &'a [u16],
-    ends: &[u16],
-    starts: &[u16],
+    tables: &[u16],
     problem: Problem,
     number: u16,
     mv: u16,
     place: Place,
 ) -> Stepped
-    requires { ⌜ Indexed (now shop) (now order) (now ends) (now starts) ⌝ }
+    requires { ⌜ Indexed (now shop) (now order) (now tables) ⌝ }
     requires { ⌜ (problem .waiting .count ≤ 64) × (number < 65535) ⌝ }
     ensures { λ r. ⌜ Is (now (shop .entry)) (now (order .entry)) (stepped (rulesOf (now (shop .entry))) number (problemIn (now (shop .entry)) (now (order .entry)) problem) (record { move = mv; place = place .0 })) problem r ⌝ }
 {
@@ -120,8 +115,7 @@ pub fn step<'a>(
     let decision = questions::decide(
         shop,
         order,
-        ends,
-        starts,
+        tables,
         &atoms,
         seen,
         waiting.count,
@@ -138,8 +132,7 @@ pub fn step<'a>(
             taken(
                 shop,
                 order,
-                ends,
-                starts,
+                tables,
                 problem,
                 number,
                 known,

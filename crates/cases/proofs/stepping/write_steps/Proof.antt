@@ -5,11 +5,11 @@ use Rattle.cases.proofs.stepping.write_steps.Statement.{statement}
 use Rattle.cases.proofs.stepping.write_steps.Tie as tie
 
 abbrev Inv-loop : tie.InvT-loop
-Inv-loop shop order trace ends starts steps problem₀ number₀ at₀ t14 problem number at =
+Inv-loop shop order trace tables steps problem₀ number₀ at₀ t14 problem number at =
     (problem .waiting .count ≤ 64) × (number ≤ at) × (at ≤ steps) × (steps ≤ 65535)
 
 abbrev μ-loop : tie.MeasureT-loop
-μ-loop shop order trace ends starts steps problem₀ number₀ at₀ t14 problem number at = steps - at
+μ-loop shop order trace tables steps problem₀ number₀ at₀ t14 problem number at = steps - at
 
 pub write-steps-spec : {M : Type 1} → statement M
 write-steps-spec =

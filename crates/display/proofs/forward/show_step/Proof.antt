@@ -65,7 +65,7 @@ use Rattle.display.proofs.forward.show_step.Statement as stated
 use Rattle.display.proofs.forward.show_step.Code as code
 
 abbrev stayed : Stays (shown.ended .signature .params) (shown.ended .kept)
-stayed = (stay-none (λ _. P.the-row) yes, (words-stay 0 tt, (words-stay 0 tt, (words-stay 1 tt, (words-stay 2 tt, (number-stay, (number-stay, (place-stay, tt))))))))
+stayed = (stay-none (λ _. P.the-row) yes, (words-stay 0 tt, (words-stay 0 tt, (words-stay 1 tt, (number-stay, (number-stay, (place-stay, tt)))))))
 
 module _ {M : Type 1} (𝓤 : URA M) (H : Heap 𝓤) (A : Atoms 𝓤) (at-mem : Memory → SProp 𝓤) (run : Routine → Fun 𝓤) where
   -- the contracts that the proof cites
@@ -75,9 +75,9 @@ module _ {M : Type 1} (𝓤 : URA M) (H : Heap 𝓤) (A : Atoms 𝓤) (at-mem : 
   abbrev Made : Contract 𝓤
   Made = tripleOf 𝓤 H A made.signature (made.spec 𝓤 H A at-mem run)
 
-module _ {M : Type 1} (𝓤 : URA M) (H : Heap 𝓤) (A : Atoms 𝓤) (W : Given 𝓤 H A) (at-mem : Memory → SProp 𝓤) (run : Routine → Fun 𝓤) (κs : Lfts 3) (qs : Shares 3) (h : Problem) (a : Passed) where
+module _ {M : Type 1} (𝓤 : URA M) (H : Heap 𝓤) (A : Atoms 𝓤) (W : Given 𝓤 H A) (at-mem : Memory → SProp 𝓤) (run : Routine → Fun 𝓤) (κs : Lfts 2) (qs : Shares 2) (h : Problem) (a : Passed) where
   abbrev Tokens : Item 𝓤
-  Tokens = raw (toks 𝓤 A 3 κs qs)
+  Tokens = raw (toks 𝓤 A 2 κs qs)
 
   abbrev bound : walkOf 𝓤 H A shown.ended stayed (shown.clauses 𝓤 H A at-mem run) .Ghost
   bound = ((κs, qs, tt, (h, a), (LL.vals P.the-type P′.the-laws h, machine a)), tt)
@@ -136,7 +136,7 @@ module _ {M : Type 1} (𝓤 : URA M) (H : Heap 𝓤) (A : Atoms 𝓤) (W : Given
   exits r u is e =
       qed W (‵ (S.the-row .own r (u ∷ [])) ∷ Tokens ∷ ‵ (Own κs a) ∷ []) ∵
       suffices ! _ (ends-at 𝓤 H A shown.ended stayed (shown.clauses 𝓤 H A at-mem run) W bound u r
-      (tt, (tt, (tt, (tt, (tt, (tt, (tt, (tt, tt)))))))) (tt, (tt, (tt, (tt, (tt, (tt, (tt, (tt, tt))))))))) $ says ! e $
+      (tt, (tt, (tt, (tt, (tt, (tt, (tt, tt))))))) (tt, (tt, (tt, (tt, (tt, (tt, (tt, tt)))))))) $ says ! e $
       move ! (1 ∷ 2 ∷ []) $ frame ! $ owned ! P.the-row (Is P.the-row) (LL.makes P.the-type P′.the-plain 𝓤 H A) h _ is $ fjoin ! $ frame ! $ done !
 
   module _ (C : Calls 𝓤 H) (Λ : Loops 𝓤 H) (fm : FmC 𝓤 H (W .laws) C) (known-forward : Triple 𝓤 (C #display·forward·step-forward) (StepForward 𝓤 H A at-mem run))
@@ -148,30 +148,30 @@ module _ {M : Type 1} (𝓤 : URA M) (H : Heap 𝓤) (A : Atoms 𝓤) (W : Given
         -- [what is passed beside; the tokens]
         enter ! C Λ code.function args _ $
         alloc1 ! (λ l₀. alloc1 ! (λ l₁. alloc1 ! (λ l₂. alloc1 ! (λ l₃. alloc1 ! (λ l₄. alloc1 ! (λ l₅. alloc1 ! (λ l₆.
-        alloc1 ! (λ l₇. alloc1 ! (λ l₈. alloc1 ! (λ l₉. alloc1 ! (λ l₁₀. alloc1 ! (λ l₁₁. alloc1 ! (λ l₁₂. alloc0 ! $ params1 ! $ pass1 ! (init ! 22 refl (typed-problem 𝓤 H A W h _ is)) $
-        pass1 ! (init ! 20 refl (tt, (tt, (record { fits = are .0 .0 .1 .0 }, tt)))) $ pass1 ! (init ! 18 refl (tt, (tt, (record { fits = are .1 .0 .0 .1 .0 }, tt)))) $
-        pass1 ! (init ! 16 refl (tt, (tt, (record { fits = are .1 .1 .0 .0 .1 .0 }, tt)))) $ pass1 ! (init ! 14 refl (tt, (tt, (record { fits = are .1 .1 .1 .0 .0 .1 .0 }, tt)))) $
-        pass1 ! (init ! 12 refl (tt, record { fits = are .1 .1 .1 .1 .0 .1 })) $ pass1 ! (init ! 10 refl (tt, record { fits = are .1 .1 .1 .1 .1 .0 .1 })) $
-        pass1 ! (init ! 8 refl (LL.lawful L.the-type L′.the-laws 𝓤 H A W .typed (a .1 .1 .1 .1 .1 .1 .0) _ (are .1 .1 .1 .1 .1 .1 .0) .0)) $ pass0 ! $
-        -- the local _9 and its address: [room for _12; …; _1; …; room for _0; …; what is passed beside; the tokens]
-        assigns ! (of-opd ! (load ! (from ! (stop !)) (look ! 22 refl))) (from ! (stop !)) (init ! 6 refl (typed-problem 𝓤 H A W h _ is)) $
+        alloc1 ! (λ l₇. alloc1 ! (λ l₈. alloc1 ! (λ l₉. alloc1 ! (λ l₁₀. alloc1 ! (λ l₁₁. alloc0 ! $ params1 ! $ pass1 ! (init ! 20 refl (typed-problem 𝓤 H A W h _ is)) $
+        pass1 ! (init ! 18 refl (tt, (tt, (record { fits = are .0 .0 .1 .0 }, tt)))) $ pass1 ! (init ! 16 refl (tt, (tt, (record { fits = are .1 .0 .0 .1 .0 }, tt)))) $
+        pass1 ! (init ! 14 refl (tt, (tt, (record { fits = are .1 .1 .0 .0 .1 .0 }, tt)))) $
+        pass1 ! (init ! 12 refl (tt, record { fits = are .1 .1 .1 .0 .1 })) $ pass1 ! (init ! 10 refl (tt, record { fits = are .1 .1 .1 .1 .0 .1 })) $
+        pass1 ! (init ! 8 refl (LL.lawful L.the-type L′.the-laws 𝓤 H A W .typed (a .1 .1 .1 .1 .1 .0) _ (are .1 .1 .1 .1 .1 .0) .0)) $ pass0 ! $
+        -- the local _8 and its address: [room for _11; …; _1; …; room for _0; …; what is passed beside; the tokens]
+        assigns ! (of-opd ! (load ! (from ! (stop !)) (look ! 20 refl))) (from ! (stop !)) (init ! 6 refl (typed-problem 𝓤 H A W h _ is)) $
         assigns ! (addr ! (from ! (stop !))) (from ! (stop !)) (init ! 2 refl (tt, tt)) $
         -- the local is lent for a lifetime ν
         lft-new ! tt (λ ν. move ! (7 ∷ []) $
-        use1 W (later (some (λ (δ : GName). ‵ (lent ν l₉ δ) ⊛ ‵ (flent (ν ∷ []) (Body (mem P.the-row) l₉ 0 δ))))) (lends 𝓤 H A W ν l₉ h _ is) $ await ! tt $ pick ! (λ δ. split ! $
-        -- [the reference; the lender's part; ν's token; room for _12; …; room for _10; …; what frees _9; _8; …; _1; …; room for _0; …; what is passed beside; the tokens]
-        move ! (28 ∷ []) $ use1 W (‵ (Own κs a) ⊛ ‵ (Own κs a)) (again 𝓤 H A W κs a) $ split ! $ move ! (4 ∷ 30 ∷ 2 ∷ 0 ∷ []) $ join ! $
-        use3 W (raw (StepForward 𝓤 H A at-mem run .pre (to-forward ν l₉ δ))) (goes-forward ν l₉ δ ok few) $
-        calls-at ! fm (StepForward 𝓤 H A at-mem run) known-forward (to-forward ν l₉ δ)
-        (and-then ! (load ! (from ! (stop !)) (look ! 5 refl)) (and-then ! (load ! (from ! (stop !)) (look ! 22 refl)) (and-then ! (load ! (from ! (stop !)) (look ! 20 refl))
-        (and-then ! (load ! (from ! (stop !)) (look ! 18 refl)) (and-then ! (load ! (from ! (stop !)) (look ! 16 refl)) (and-then ! (load ! (from ! (stop !)) (look ! 14 refl))
-        (and-then ! (load ! (from ! (stop !)) (look ! 12 refl)) (and-then ! (load ! (from ! (stop !)) (look ! 10 refl)) (no-more !))))))))) (λ w.
-        use1 W (later (some (λ (k : Refusal). (Both ν ⊛ ‵ (R.the-row .own k (w ∷ []))) ⊛ raw (ensured 𝓤 H A forward.ended (forward.clauses 𝓤 H A at-mem run) (ν ∷ [], κs) (bench l₉ δ, a) tt k)))) (id⊢ 𝓤 _) $
-        await ! tt $ pick ! (λ k. split ! $ move ! (1 ∷ []) $ use1 W (some (Told δ k)) (forward-said ν l₉ δ k) $ pick ! (λ p. learn ! (λ e. move ! (1 ∷ []) $ split ! $ split ! $
-        -- [ν's token; the tokens; the result; res; what is passed beside; the lender's part; room for _12; …]: the lifetime is ended, and the local lies there again
-        lft-end ! tt $ move ! (0 ∷ 5 ∷ 3 ∷ []) $ use3 W (later (given (Is P.the-row p (LL.vals P.the-type P′.the-laws p)) (‵ (fat fullShare P′.mir l₉ 0 (LL.val P.the-type P′.the-laws p)))))
-        (back 𝓤 H A W ν l₉ δ p) $ await ! tt $ learn ! (λ isp. move ! (2 ∷ []) $ facts ! R.the-row (Is R.the-row) (shows 𝓤 H A R.the-row) k _ (λ isk.
-        -- [_9; the tokens; what is passed beside; room for _12; …; room for _10; …; what frees _9; _8; …; _1; …; room for _0; …]
+        use1 W (later (some (λ (δ : GName). ‵ (lent ν l₈ δ) ⊛ ‵ (flent (ν ∷ []) (Body (mem P.the-row) l₈ 0 δ))))) (lends 𝓤 H A W ν l₈ h _ is) $ await ! tt $ pick ! (λ δ. split ! $
+        -- [the reference; the lender's part; ν's token; room for _11; …; room for _9; …; what frees _8; _7; …; _1; …; room for _0; …; what is passed beside; the tokens]
+        move ! (26 ∷ []) $ use1 W (‵ (Own κs a) ⊛ ‵ (Own κs a)) (again 𝓤 H A W κs a) $ split ! $ move ! (4 ∷ 28 ∷ 2 ∷ 0 ∷ []) $ join ! $
+        use3 W (raw (StepForward 𝓤 H A at-mem run .pre (to-forward ν l₈ δ))) (goes-forward ν l₈ δ ok few) $
+        calls-at ! fm (StepForward 𝓤 H A at-mem run) known-forward (to-forward ν l₈ δ)
+        (and-then ! (load ! (from ! (stop !)) (look ! 5 refl)) (and-then ! (load ! (from ! (stop !)) (look ! 20 refl)) (and-then ! (load ! (from ! (stop !)) (look ! 18 refl))
+        (and-then ! (load ! (from ! (stop !)) (look ! 16 refl)) (and-then ! (load ! (from ! (stop !)) (look ! 14 refl))
+        (and-then ! (load ! (from ! (stop !)) (look ! 12 refl)) (and-then ! (load ! (from ! (stop !)) (look ! 10 refl)) (no-more !)))))))) (λ w.
+        use1 W (later (some (λ (k : Refusal). (Both ν ⊛ ‵ (R.the-row .own k (w ∷ []))) ⊛ raw (ensured 𝓤 H A forward.ended (forward.clauses 𝓤 H A at-mem run) (ν ∷ [], κs) (bench l₈ δ, a) tt k)))) (id⊢ 𝓤 _) $
+        await ! tt $ pick ! (λ k. split ! $ move ! (1 ∷ []) $ use1 W (some (Told δ k)) (forward-said ν l₈ δ k) $ pick ! (λ p. learn ! (λ e. move ! (1 ∷ []) $ split ! $ split ! $
+        -- [ν's token; the tokens; the result; res; what is passed beside; the lender's part; room for _11; …]: the lifetime is ended, and the local lies there again
+        lft-end ! tt $ move ! (0 ∷ 5 ∷ 3 ∷ []) $ use3 W (later (given (Is P.the-row p (LL.vals P.the-type P′.the-laws p)) (‵ (fat fullShare P′.mir l₈ 0 (LL.val P.the-type P′.the-laws p)))))
+        (back 𝓤 H A W ν l₈ δ p) $ await ! tt $ learn ! (λ isp. move ! (2 ∷ []) $ facts ! R.the-row (Is R.the-row) (shows 𝓤 H A R.the-row) k _ (λ isk.
+        -- [_8; the tokens; what is passed beside; room for _11; …; room for _9; …; what frees _8; _7; …; _1; …; room for _0; …]
         land ! (from ! (stop !)) (init ! 7 refl (LL.lawful R.the-type R′.the-laws 𝓤 H A W .typed k _ isk .0)) $
         assigns ! (of-opd ! (load ! (from ! (stop !)) (look ! 0 refl))) (from ! (stop !)) (init ! 3 refl (typed-problem 𝓤 H A W p _ isp)) $
         -- `made`
@@ -181,14 +181,14 @@ module _ {M : Type 1} (𝓤 : URA M) (H : Heap 𝓤) (A : Atoms 𝓤) (W : Given
         use1 W (later (some (λ (r : Stepped). (‵ ftrue ⊛ ‵ (S.the-row .own r (u ∷ []))) ⊛ raw (ensured 𝓤 H A made.ended (made.clauses 𝓤 H A at-mem run) tt (k, (p, tt)) tt r)))) (id⊢ 𝓤 _) $
         await ! tt $ pick ! (λ r. split ! $ move ! (1 ∷ []) $ use1 W (raw (fact 𝓤 (Is-made k p r))) (made-said k p r) $ heard ! (Is-made k p r) (λ er. split ! $ drop ! $
         peeks ! S.the-row (Is S.the-row) (shows 𝓤 H A S.the-row) r _ (λ isr.
-        -- [the result; _9; the tokens; what is passed beside; _12; …; _10; …; what frees _9; _8; …; _1; …; room for _0; …]
-        land ! (from ! (stop !)) (init ! 27 refl (LL.lawful S.the-type S′.the-laws 𝓤 H A W .typed r _ isr .0)) $
-        returns ! (look ! 27 refl) $ forget ! 1 refl $ forget ! 4 refl $ forget ! 6 refl $ forget ! 8 refl $ forget ! 11 refl $ forget ! 13 refl $ forget ! 15 refl $
-        forget ! 17 refl $ forget ! 19 refl $ forget ! 21 refl $ forget ! 23 refl $ forget ! 25 refl $ forget ! 27 refl $
-        move ! (27 ∷ 28 ∷ []) $ free1 ! $ move ! (25 ∷ 26 ∷ []) $ free1 ! $ move ! (23 ∷ 24 ∷ []) $ free1 ! $ move ! (21 ∷ 22 ∷ []) $ free1 ! $ move ! (19 ∷ 20 ∷ []) $ free1 ! $
+        -- [the result; _8; the tokens; what is passed beside; _11; …; _9; …; what frees _8; _7; …; _1; …; room for _0; …]
+        land ! (from ! (stop !)) (init ! 25 refl (LL.lawful S.the-type S′.the-laws 𝓤 H A W .typed r _ isr .0)) $
+        returns ! (look ! 25 refl) $ forget ! 1 refl $ forget ! 4 refl $ forget ! 6 refl $ forget ! 8 refl $ forget ! 11 refl $ forget ! 13 refl $ forget ! 15 refl $
+        forget ! 17 refl $ forget ! 19 refl $ forget ! 21 refl $ forget ! 23 refl $ forget ! 25 refl $
+        move ! (25 ∷ 26 ∷ []) $ free1 ! $ move ! (23 ∷ 24 ∷ []) $ free1 ! $ move ! (21 ∷ 22 ∷ []) $ free1 ! $ move ! (19 ∷ 20 ∷ []) $ free1 ! $
         move ! (17 ∷ 18 ∷ []) $ free1 ! $ move ! (15 ∷ 16 ∷ []) $ free1 ! $ move ! (13 ∷ 14 ∷ []) $ free1 ! $ move ! (11 ∷ 12 ∷ []) $ free1 ! $ move ! (1 ∷ 10 ∷ []) $ free1 ! $
         move ! (7 ∷ 8 ∷ []) $ free1 ! $ move ! (5 ∷ 6 ∷ []) $ free1 ! $ move ! (3 ∷ 4 ∷ []) $ free1 ! $ free0 ! $
-        by ! (exits r u is (subst (λ (y : Refusal). Moved a h y (r .problem)) (sym (er .0)) (subst (Moved a h k) (sym (er .1)) e))))))))))))))))))))))))))))
+        by ! (exits r u is (subst (λ (y : Refusal). Moved a h y (r .problem)) (sym (er .0)) (subst (Moved a h k) (sym (er .1)) e)))))))))))))))))))))))))))
 
 module _ {M : Type 1} (𝓤 : URA M) (H : Heap 𝓤) (A : Atoms 𝓤) (W : Given 𝓤 H A) (at-mem : Memory → SProp 𝓤) (run : Routine → Fun 𝓤) where
   shown-walks : (C : Calls 𝓤 H) (Λ : Loops 𝓤 H) → FmC 𝓤 H (W .laws) C → Triple 𝓤 (C #display·forward·step-forward) (StepForward 𝓤 H A at-mem run)
@@ -198,11 +198,11 @@ module _ {M : Type 1} (𝓤 : URA M) (H : Heap 𝓤) (A : Atoms 𝓤) (W : Given
       (λ κs. (LL.vals P.the-type P′.the-laws, spelled κs)) (λ κs. (LL.tells P.the-type P′.the-laws, told κs))
       (λ κs qs bounds a _ are. needs-both 𝓤 (Checked (a .1)) (Few (a .1) (a .0)) _ (walk 𝓤 H A W at-mem run κs qs (a .0) (a .1) C Λ fm known-forward known-made (are .0) (are .1)))
 
-  goes : AllGo 𝓤 H A W 3 (shown.signature .params) (shown.ended .kept) stayed
+  goes : AllGo 𝓤 H A W 2 (shown.signature .params) (shown.ended .kept) stayed
   goes =
-      let words = words-go 𝓤 H A W 3 in
-      let word = number-goes 𝓤 H A W 3 in
-      (goes-none 𝓤 H A W 3 (λ _. P.the-row) yes (λ κs x f. refl), (words 0 tt, (words 0 tt, (words 1 tt, (words 2 tt, (word, (word, (place-goes 𝓤 H A W 3, tt))))))))
+      let words = words-go 𝓤 H A W 2 in
+      let word = number-goes 𝓤 H A W 2 in
+      (goes-none 𝓤 H A W 2 (λ _. P.the-row) yes (λ κs x f. refl), (words 0 tt, (words 0 tt, (words 1 tt, (word, (word, (place-goes 𝓤 H A W 2, tt)))))))
 
 shown-meets : {M : Type 1} (𝓤 : URA M) (H : Heap 𝓤) (A : Atoms 𝓤) → Given 𝓤 H A → (at-mem : Memory → SProp 𝓤) (run : Routine → Fun 𝓤) (𝓣 : Tables 𝓤 H)
     → Triple 𝓤 (𝓣 .C #display·forward·step-forward) (StepForward 𝓤 H A at-mem run) → Triple 𝓤 (𝓣 .C #display·forward·made) (Made 𝓤 H A at-mem run)

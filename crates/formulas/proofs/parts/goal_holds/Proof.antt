@@ -6,7 +6,7 @@ use borrow.Author.Needs.{needs}
 use Rattle.hgn.specs.Rows.{row}
 use Rattle.hgn.specs.Meaning.{nodeOf}
 use Rattle.hgn.specs.State.{formulaHolds}
-use Rattle.formulas.specs.Spanned.{spanRows}
+use Rattle.spans.specs.Index.{spanRows}
 use Rattle.formulas.proofs.parts.goal_holds.Statement.{statement}
 use Rattle.formulas.proofs.parts.goal_holds.Tie as tie
 

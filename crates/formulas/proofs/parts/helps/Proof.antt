@@ -6,7 +6,7 @@ use borrow.Author.Needs.{needs}
 use Rattle.hgn.specs.Rows.{row}
 use Rattle.hgn.specs.Meaning.{literals, nodeOf}
 use Rattle.hgn.specs.State.{relevant}
-use Rattle.formulas.specs.Spanned.{spanRows}
+use Rattle.spans.specs.Index.{spanRows}
 use Rattle.formulas.proofs.parts.helps.Statement.{statement}
 use Rattle.formulas.proofs.parts.helps.Tie as tie
 

@@ -6,7 +6,7 @@ use borrow.Author.Needs.{needs}
 use Rattle.hgn.specs.Rows.{row}
 use Rattle.hgn.specs.Meaning.{literals}
 use Rattle.hgn.specs.State.{allHold}
-use Rattle.formulas.specs.Spanned.{spanRows}
+use Rattle.spans.specs.Index.{spanRows}
 use Rattle.formulas.proofs.parts.needs_hold.Statement.{statement}
 use Rattle.formulas.proofs.parts.needs_hold.Tie as tie
 

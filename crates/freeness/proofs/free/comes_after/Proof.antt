@@ -7,7 +7,7 @@ use mathlib.Core.Logic.{⊎-elim}
 use borrow.Author.Needs.{needs}
 use Rattle.hgn.specs.Rows.{row, valuesOf}
 use Rattle.reading.proofs.Laws.{told}
-use Rattle.formulas.specs.Spanned.{spanRows}
+use Rattle.spans.specs.Index.{spanRows}
 use Rattle.freeness.proofs.Afters.{there, there-is, there-not, after-there, after-order, after-parent}
 use Rattle.freeness.proofs.free.comes_after.Statement.{statement}
 use Rattle.freeness.proofs.free.comes_after.Tie as tie

@@ -10,7 +10,7 @@ use Rattle.hgn.specs.Lists.{any}
 use Rattle.hgn.specs.Rows.{row, valuesOf}
 use Rattle.hgn.specs.Network.{comesAfter}
 use Rattle.reading.proofs.Laws.{told}
-use Rattle.formulas.specs.Spanned.{spanRows}
+use Rattle.spans.specs.Index.{spanRows}
 use Rattle.network.specs.Entries.{waitingOf, listOf, entryAt}
 use Rattle.network.proofs.Places.{entry-inside, entry-past}
 use Rattle.freeness.proofs.Afters.{goals-none, goals-found, goals-on, free-if, free-not}

@@ -18,15 +18,15 @@ use Rattle.predecessors.proofs.moved.decomposed.Statement.{statement}
 use Rattle.predecessors.proofs.moved.decomposed.Tie as tie
 
 abbrev Inv-loop : tie.InvT-loop
-Inv-loop shop order ends starts counts₀ number method next nodes at i₀ counts i = Filling (listOf shop order next) at nodes counts₀ counts i
+Inv-loop shop order tables counts₀ number method next nodes at i₀ counts i = Filling (listOf shop order next) at nodes counts₀ counts i
 
 abbrev μ-loop : tie.MeasureT-loop
-μ-loop shop order ends starts counts₀ number method next nodes at i₀ counts i = nodes - i
+μ-loop shop order tables counts₀ number method next nodes at i₀ counts i = nodes - i
 
 -- Once the nodes have entered.
 module _ (d : tie.After-decomposed Inv-loop μ-loop) where
   abbrev start : tie.Start Inv-loop μ-loop
-  start = d .before .before .before .before .before .before
+  start = d .before .before .before .before .before
 
   abbrev list : List Network.Waiting
   list = listOf (start .args .shop .now) (start .args .order .now) (start .args .waiting)
@@ -37,7 +37,7 @@ module _ (d : tie.After-decomposed Inv-loop μ-loop) where
   size : length list ≡ start .args .waiting .count
   size =
       list-length (start .args .shop .now) (start .args .order .now) (start .args .waiting)
-      (omega (arith, simp length-map at (start .good .1 .1 .1 .1 .1 .0 .1 .1 .0 .1 .0 .1))) (omega arith)
+      (omega (arith, simp length-map at (start .good .1 .1 .1 .1 .0 .1 .1 .0 .1 .0 .1))) (omega arith)
 
   grows : next ≡ Network.decomposed list (start .args .place .0) (Network.step (start .args .number)) (networkOf (methodAt (domain (start .args .shop .now)) (start .args .method)))
   grows = d .decomposed .ensures .0 (start .args .order .now) (start .pre .0)

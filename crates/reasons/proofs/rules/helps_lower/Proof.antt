@@ -9,7 +9,7 @@ use Rattle.hgn.specs.Lists.{any}
 use Rattle.hgn.specs.Meaning.{literals}
 use Rattle.hgn.specs.State.{relevant}
 use Rattle.hgn.specs.Network.{free}
-use Rattle.formulas.specs.Spanned.{spanRows}
+use Rattle.spans.specs.Index.{spanRows}
 use Rattle.network.specs.Entries.{listOf}
 use Rattle.reasons.proofs.Lower.{lower-none, lower-irrelevant, lower-found, lower-held}
 use Rattle.reasons.proofs.rules.helps_lower.Statement.{statement}

@@ -1,5 +1,11 @@
 -- What each move asks, by its cases. Assumes nothing.
+use mathlib.Core.Path.{ap, _∙_}
 use borrow.Author.Needs.{needs}
+use Rattle.hgn.specs.Tag as Tag
+use Rattle.hgn.specs.Meaning.{literals}
+use Rattle.hgn.specs.State.{allHold}
+use Rattle.spans.specs.Index.{spanRows}
+use Rattle.spans.specs.declared.index.Span.{Span}
 use Rattle.steps.proofs.Actions.{known-method}
 use Rattle.reasons.proofs.Asked.{action-inside, ready-release, ready-action, ready-method}
 use Rattle.reasons.proofs.rules.ready.Statement.{statement}
@@ -9,19 +15,35 @@ pub ready-spec : {M : Type 1} → statement M
 ready-spec =
     tie.close
     (tie.spec
+    -- enum-told
     (λ c. search needs)
+    -- goal-holds-requires
     (λ c κs. search needs)
+    -- enum-known-mv
     (λ c. search needs)
-    (λ c κs. let s = c .before .before .before .before .before .before .before in action-inside (s .pre .0) (s .pre .1) (c .before .mv .given .1))
+    -- action-rows-requires
+    (λ c κs. let s = c .before .before .before .before .before .before in action-inside (s .pre .0) (s .pre .1) (c .before .mv .given .1))
+    -- needs-hold-requires
     (λ c κs. search needs)
+    -- enum-known-mv-2
     (λ c. search needs)
+    -- method-rows-requires
     (λ c κs.
-    let s = c .before .before .before .before .before .before .before in
-    (s .pre .0, known-method (s .pre .0) (s .pre .1) (c .before .mv2 .given .1)))
+    let s = c .before .before .before .before .before .before in
+    (_, s .pre .0, known-method (s .pre .0) (s .pre .1) (c .before .mv2 .given .1)))
+    -- of-shop-requires
     (λ c κs. search needs)
+    -- needs-hold-requires-2
+    (λ c κs. search needs)
+    -- returns
     (λ c. ready-release _ (c .before .before .enum-told .given .1) _ _ _ (c .goal-holds .ensures))
+    -- returns-2
+    (λ c.
+    let s = c .before .before .before .before .before .before .before .before in
+    ready-action (s .pre .0) (s .pre .1) (c .before .before .before .mv .given .1) _ (c .before .action-rows .ensures) _ _ (c .needs-hold .ensures))
+    -- returns-3
     (λ c.
     let s = c .before .before .before .before .before .before .before .before .before in
-    ready-action (s .pre .0) (s .pre .1) (c .before .before .before .mv .given .1) (c .before .action-rows .ensures) _ _ (c .needs-hold .ensures))
-    (λ c.
-    ready-method _ (c .before .before .before .mv2 .given .1) _ _ _ _ (c .before .method-rows .ensures) (c .needs-hold2 .ensures)))
+    let a = c .before .before .method-rows .ensures _ (s .pre .0) in
+    ready-method _ (c .before .before .before .before .mv2 .given .1) _ _ _ _ (a .needs)
+    (c .needs-hold2 .ensures ∙ ap (λ (x : Span). allHold (s .args .atoms .now) (literals Tag.needsTrue Tag.needsFalse (spanRows (s .args .shop .now) (s .args .order .now) x))) (c .before .of-shop .ensures))))

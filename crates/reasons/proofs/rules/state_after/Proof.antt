@@ -10,11 +10,11 @@ state-after-spec =
     (tie.spec
     (λ c. search needs)
     (λ c. search needs)
-    (λ c κs. let s = c .before .before .before .before .before .before .before in action-inside (s .pre .0) (s .pre .1) (c .before .mv .given .1))
+    (λ c κs. let s = c .before .before .before .before .before .before in action-inside (s .pre .0) (s .pre .1) (c .before .mv .given .1))
     (λ c κs. search needs)
     (λ c. search needs)
     (λ c. after-release _ (c .enum-told .given .1) _)
     (λ c.
-    let s = c .before .before .before .before .before .before .before .before .before in
-    after-action (s .pre .0) (s .pre .1) (c .before .before .before .mv .given .1) (c .before .action-rows .ensures) _ (c .changed .ensures))
+    let s = c .before .before .before .before .before .before .before .before in
+    after-action (s .pre .0) (s .pre .1) (c .before .before .before .mv .given .1) _ (c .before .action-rows .ensures) _ (c .changed .ensures))
     (λ c. after-method _ (c .before .mv2 .given .1) _))

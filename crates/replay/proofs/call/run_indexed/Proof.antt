@@ -15,17 +15,26 @@ pub run-indexed-spec : {M : Type 1} → statement M
 run-indexed-spec =
     tie.close
     (tie.spec
+    -- prepared-requires
     (λ c κs.
-    let s = c .before .before .before .before .before .before .before in
+    let s = c .before .before .before .before .before in
     (order-of-trace (s .args .shop .now) (s .args .order .now) (s .args .trace .now) (s .pre .0), s .pre .1))
+    -- run-requires
     (λ c κs.
-    let p = c .before .before .before .before .before .before in
-    let s = p .before .before .before .before .before .before .before .before in
-    (p .prepared .ensures .0, (trace-sizes (s .args .shop .now) (s .args .order .now) (s .args .trace .now) (s .pre .0), (p .prepared .ensures .1 .1 .1, p .prepared .ensures .1 .1 .0))))
+    let p = c .before .before .before in
+    let s = p .before .before .before .before .before .before in (
+      p .prepared .ensures .0,
+      (
+        trace-sizes (s .args .shop .now) (s .args .order .now) (s .args .trace .now) (s .pre .0),
+        (p .prepared .ensures .1 .1 .1, p .prepared .ensures .1 .1 .0),
+      ),
+    ))
+    -- same-length
     (λ c. search needs)
-    (λ c. search needs)
+    -- returns
     (λ c.
-    let p = c .before .before .before .before .before .before .before in
-    let s = p .before .before .before .before .before .before .before .before in
+    let p = c .before .before .before .before in
+    let s = p .before .before .before .before .before .before in
     c .run .ensures
-    ∙ ap₂ {C = Replay.Answer} (λ (st : State) (w : List Waiting). runAnswer (s .args .shop .now) (s .args .trace .now) (record { state = st; waiting = w })) (p .prepared .ensures .1 .0) (p .prepared .ensures .1 .1 .0)))
+    ∙ ap₂ {C = Replay.Answer} (λ (st : State) (w : List Waiting). runAnswer (s .args .shop .now) (s .args .trace .now) (record { state = st; waiting = w }))
+    (p .prepared .ensures .1 .0) (p .prepared .ensures .1 .1 .0)))

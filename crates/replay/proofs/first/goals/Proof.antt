@@ -10,7 +10,8 @@ use Rattle.hgn.specs.Order as Order
 use Rattle.hgn.proofs.Checked.{order-count, order-goals}
 use Rattle.reading.specs.declared.position.Sheet.the-variants as Of
 use Rattle.network.specs.Entries.{entriesOf}
-use Rattle.network.specs.Entering.{Walk, entriesFrom}
+use Rattle.spans.specs.Tables.{Walk}
+use Rattle.network.specs.Entering.{entriesFrom}
 use Rattle.network.specs.declared.waiting.Entry.{Entry}
 use Rattle.replay.proofs.Firsts.{GoalsAt, goals-read, goals-entered}
 use Rattle.replay.proofs.first.goals.Statement.{statement}
@@ -24,14 +25,14 @@ module _ (s : tie.After-word2) where
   abbrev order : List ℕ
   order = start .args .order .now
 
-  found : GoalsAt (start .args .shop .now) order (start .args .ends .now) (s .before .before .first-node .result)
-  found = subst (GoalsAt (start .args .shop .now) order (start .args .ends .now)) (sym (s .before .before .first-node .ensures)) (goals-read (start .pre))
+  found : GoalsAt (start .args .shop .now) order (start .args .tables .now) (s .before .before .first-node .result .0)
+  found = subst (GoalsAt (start .args .shop .now) order (start .args .tables .now)) (sym (s .before .before .first-node .ensures)) (goals-read (start .pre))
 
   end-is : s .before .word .result ≡ Order.rowCount order
   end-is = s .before .word .ensures
 
-  walk : Walk (start .args .ends .now) (s .before .word .result) (s .before .before .first-node .result) (found .bs)
-  walk = subst (λ (e : ℕ). Walk (start .args .ends .now) e (s .before .before .first-node .result) (found .bs)) (sym end-is) (found .walk)
+  walk : Walk (start .args .tables .now) (s .before .word .result) (s .before .before .first-node .result .0) (found .bs)
+  walk = subst (λ (e : ℕ). Walk (start .args .tables .now) e (s .before .before .first-node .result .0) (found .bs)) (sym end-is) (found .walk)
 
   few : s .word2 .result ≤ 64
   few = omega (arith, s .word2 .ensures, order-count (start .args .shop .now) order (start .pre .checked), order-goals (start .args .shop .now) order (start .pre .checked))

@@ -10,7 +10,7 @@ use Rattle.hgn.specs.Meaning.{orderOf}
 use Rattle.hgn.specs.Order as Order
 use Rattle.hgn.specs.State.{State, assign}
 use Rattle.reading.specs.declared.position.Sheet.the-variants as Of
-use Rattle.formulas.specs.Spanned.{spanRows}
+use Rattle.spans.specs.Index.{spanOf, spanRows}
 use Rattle.replay.proofs.Firsts.{whole-rows}
 use Rattle.replay.proofs.first.start.Statement.{statement}
 use Rattle.replay.proofs.first.start.Tie as tie
@@ -31,6 +31,6 @@ start-spec =
     c .assigned .ensures
     ∙ ap₂ {C = List Bool} (λ (l : List Row) (a : State). assign true (valuesOf 12 l) a)
     (ap₂ (zipWith row) (c .before .before .before .before .tags-of .ensures) (c .before .before .before .values-of .ensures)
-    ∙ ap (λ (n : ℕ). spanRows (s .args .shop .now) (s .args .order .now) (record { sheet = Of.Order; from = 0; to = n })) (c .before .before .before .before .before .word .ensures)
+    ∙ ap (λ (n : ℕ). spanRows (s .args .shop .now) (s .args .order .now) (spanOf Of.Order 0 n)) (c .before .before .before .before .before .word .ensures)
     ∙ whole-rows (s .args .shop .now) (s .args .order .now) (s .pre))
     (c .before .before .empty .ensures)))

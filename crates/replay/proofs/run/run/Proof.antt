@@ -17,7 +17,7 @@ use Rattle.hgn.specs.Questions as Questions
 use Rattle.hgn.specs.Questions.{placed}
 use Rattle.hgn.specs.Run as Run
 use Rattle.hgn.specs.Run.{Problem, Deed, deedOf, moved, refused, taken, stepped, actionAt, methodAt, planOf}
-use Rattle.hgn.specs.Shop.{domain, actionCount, rowCount}
+use Rattle.hgn.specs.Shop.{domain, actionCount}
 use Rattle.hgn.specs.Trace.{stepsOf, stepCount}
 use Rattle.hgn.specs.Replay.{rulesOf, refusal}
 use Rattle.network.specs.Entries.{waitingOf, listOf, entriesOf, entryAt, noEntry}
@@ -43,7 +43,7 @@ use Rattle.steps.specs.declared.moves.Move.{Move}
 use Rattle.steps.specs.declared.moves.Move.the-variants.{Release, Act, Use}
 use Rattle.steps.specs.declared.questions.Decision.the-variants.{Refused, Takes}
 use Rattle.replay.proofs.Running.{Running, running-start}
-use Rattle.replay.proofs.Totals.{start-inside, start-below, cost-is, run-stops, run-on, run-acts, run-ended}
+use Rattle.replay.proofs.Totals.{cost-is, run-stops, run-on, run-acts, run-ended}
 use Rattle.replay.proofs.run.run.Statement.{statement}
 use Rattle.replay.proofs.run.run.Tie as tie
 
@@ -53,21 +53,21 @@ at-hand shop order s list = record { state = s; waiting = listOf shop order list
 
 -- A release: the goal leaves, place by place, and what the goals behind it counted of it is taken off.
 abbrev Inv-loop2 : tie.InvT-loop2
-Inv-loop2 shop order trace ends starts steps rows atoms waiting₀ counts₀ count cost i number mv at goal free last here₀ waiting counts here =
+Inv-loop2 shop order trace tables steps atoms waiting₀ counts₀ count cost i number mv at goal free last here₀ waiting counts here =
     Leaving waiting₀ here₀ waiting here × (last + 1 ≡ waiting .count) × Releasing (listOf shop order waiting₀) here₀ counts₀ counts here
 
 abbrev μ-loop2 : tie.MeasureT-loop2
-μ-loop2 shop order trace ends starts steps rows atoms waiting₀ counts₀ count cost i number mv at goal free last here₀ waiting counts here = last - here
+μ-loop2 shop order trace tables steps atoms waiting₀ counts₀ count cost i number mv at goal free last here₀ waiting counts here = last - here
 
 abbrev Inv-loop : tie.InvT-loop
-Inv-loop shop order trace ends starts steps rows atoms₀ waiting₀ counts₀ count₀ cost₀ i₀ atoms waiting counts count cost i =
+Inv-loop shop order trace tables steps atoms₀ waiting₀ counts₀ count₀ cost₀ i₀ atoms waiting counts count cost i =
     Running (rulesOf shop) (stepsOf trace) (at-hand shop order atoms₀ waiting₀) i (at-hand shop order atoms waiting) count cost
-    × (waiting .count ≤ 64) × (steps ≡ stepCount trace) × (rows ≡ rowCount shop) × (length (waiting .entries) ≡ 64)
+    × (waiting .count ≤ 64) × (steps ≡ stepCount trace) × (length (waiting .entries) ≡ 64)
     × ReachedAt shop order i (at-hand shop order atoms waiting)
     × Counted (listOf shop order waiting) counts × (length counts ≡ 64)
 
 abbrev μ-loop : tie.MeasureT-loop
-μ-loop shop order trace ends starts steps rows atoms₀ waiting₀ counts₀ count₀ cost₀ i₀ atoms waiting counts count cost i = steps - i
+μ-loop shop order trace tables steps atoms₀ waiting₀ counts₀ count₀ cost₀ i₀ atoms waiting counts count cost i = steps - i
 
 -- Where a step was decided.
 module _ (v : tie.After-decide Inv-loop2 μ-loop2 Inv-loop μ-loop) where
@@ -78,7 +78,7 @@ module _ (v : tie.After-decide Inv-loop2 μ-loop2 Inv-loop μ-loop) where
   here = v .before .before .before .before .before .before .before .before .before
 
   abbrev start : tie.Start Inv-loop2 μ-loop2 Inv-loop μ-loop
-  start = here .before .before .before .before .before .before .before .before .before .before .before .before .before
+  start = here .before .before .before .before .before .before .before .before .before .before .before
 
   abbrev shop : List ℕ
   shop = start .args .shop .now
@@ -102,10 +102,10 @@ module _ (v : tie.After-decide Inv-loop2 μ-loop2 Inv-loop μ-loop) where
   i = here .loop .i
 
   abbrev move : ℕ
-  move = v .before .before .before .before .before .before .before .word3 .result
+  move = v .before .before .before .before .before .before .before .word2 .result
 
   abbrev place : ℕ
-  place = v .before .before .before .before .before .before .word4 .result
+  place = v .before .before .before .before .before .before .word3 .result
 
   abbrev P : Problem
   P = record { state = s; waiting = w }
@@ -123,20 +123,20 @@ module _ (v : tie.After-decide Inv-loop2 μ-loop2 Inv-loop μ-loop) where
   more = omega (arith, here .loop .inv .2, v .before .before .before .before .before .before .before .before .loop-test .taken)
 
   place-is : place ≡ getD trace (1 + stepCount trace + i) 0
-  place-is = v .before .before .before .before .before .before .word4 .ensures ∙ ap (λ (n : ℕ). getD trace (1 + n + i) 0) (here .loop .inv .2)
+  place-is = v .before .before .before .before .before .before .word3 .ensures ∙ ap (λ (n : ℕ). getD trace (1 + n + i) 0) (here .loop .inv .2)
 
   move-is : move ≡ getD trace (1 + i) 0
-  move-is = v .before .before .before .before .before .before .before .word3 .ensures
+  move-is = v .before .before .before .before .before .before .before .word2 .ensures
 
   size : length w ≡ list .count
-  size = list-length shop order list (here .loop .inv .4) (here .loop .inv .1)
+  size = list-length shop order list (here .loop .inv .3) (here .loop .inv .1)
 
   sound-here : Sound i w
-  sound-here = reached-sound (start .pre .0 .checked) (here .loop .inv .5)
+  sound-here = reached-sound (start .pre .0 .checked) (here .loop .inv .4)
 
   goal-entry : place < list .count → joined .if1 .goal ≡ entryAt list place
   goal-entry h =
-      ⊎-elim (λ t. t .2 ∙ entry-inside (list .entries) (list .count) place _ noEntry h (omega (arith, here .loop .inv .1, here .loop .inv .4)))
+      ⊎-elim (λ t. t .2 ∙ entry-inside (list .entries) (list .count) place _ noEntry h (omega (arith, here .loop .inv .1, here .loop .inv .3)))
       (λ t. absurd (omega (arith, t .0 .left))) (joined .if1 .came)
 
   -- What is seen at the place: the goal there, which is free where its count is 0.
@@ -145,12 +145,12 @@ module _ (v : tie.After-decide Inv-loop2 μ-loop2 Inv-loop μ-loop) where
 
   goal-seen : place < list .count → goalAt w place ≡ waitingOf shop order (joined .if1 .goal)
   goal-seen h =
-      ⊎-elim (λ t. sym (ap (waitingOf shop order) (t .2) ∙ entry-at shop order list (omega (arith, here .loop .inv .1, here .loop .inv .4)) place h _))
+      ⊎-elim (λ t. sym (ap (waitingOf shop order) (t .2) ∙ entry-at shop order list (omega (arith, here .loop .inv .1, here .loop .inv .3)) place h _))
       (λ t. absurd (omega (arith, t .0 .left))) (joined .if1 .came)
 
   free-seen : place < list .count → joined .if1 .free ≡ Network.free w (goalAt w place)
   free-seen h =
-      ⊎-elim (λ t. t .3 ∙ counted-free w (here .loop .counts) (here .loop .inv .6) place (omega (arith, size)))
+      ⊎-elim (λ t. t .3 ∙ counted-free w (here .loop .counts) (here .loop .inv .5) place (omega (arith, size)))
       (λ t. absurd (omega (arith, t .0 .left))) (joined .if1 .came)
 
   seen : SeenIn shop order s (list .count) looked P place
@@ -171,7 +171,7 @@ module _ (v : tie.After-decide Inv-loop2 μ-loop2 Inv-loop μ-loop) where
     below = omega (arith, takes .inside, seen .size)
 
     leads : (deed : Deed) (P′ : Problem) → stepped (rulesOf shop) i P (record { move = move; place = place }) ≡ taken deed P′ → Reaches P′
-    leads deed P′ c = subst (λ (n : ℕ). ReachedAt shop order n P′) (sym (add-one i)) (reached-next _ (here .loop .inv .5) c)
+    leads deed P′ c = subst (λ (n : ℕ). ReachedAt shop order n P′) (sym (add-one i)) (reached-next _ (here .loop .inv .4) c)
 
     -- A step that takes no action.
     goes-on : (deed : Deed) (P′ : Problem) → stepped (rulesOf shop) i P (record { move = move; place = place }) ≡ taken deed P′
@@ -208,7 +208,7 @@ module _ (v : tie.After-decide Inv-loop2 μ-loop2 Inv-loop μ-loop) where
       known = known-action (start .pre .0) (takes .known) a
 
       acts : (s′ : State) → s′ ≡ γ s (actionAt (domain shop) k .effects) → (price : ℕ)
-          → price ≡ getD shop (4 + here .before .before .before .before .before .before .word2 .result + getD (start .args .starts .now) (k - 1) 0) 0 → price ≤ 65535
+          → price ≡ actionAt (domain shop) k .cost → price ≤ 65535
           → Goes (record { state = s′; waiting = w }) (here .loop .count + 1) (here .loop .cost + price) × Reaches (record { state = s′; waiting = w })
       unfolding moved deedOf
       acts s′ z price q small =
@@ -218,8 +218,7 @@ module _ (v : tie.After-decide Inv-loop2 μ-loop2 Inv-loop μ-loop) where
           in (
             run-acts shop trace (start .pre .1 .0 .0) P₀ i P (here .loop .count) (here .loop .cost) (here .loop .inv .0)
                 more move place move-is place-is k (record { state = s′; waiting = w }) price c
-                (q ∙ ap (λ (rows : ℕ). getD shop (4 + rows + getD (start .args .starts .now) (k - 1) 0) 0) (here .loop .inv .3)
-                ∙ sym (cost-is shop order (start .args .ends .now) (start .args .starts .now) (start .pre .0) k (known .0) (known .1)))
+                (q ∙ sym (cost-is (domain shop) k))
                 small,
             leads (Run.takes k) (record { state = s′; waiting = w }) c,
           )
@@ -242,7 +241,7 @@ module _ (c : tie.After-times-listed Inv-loop2 μ-loop2 Inv-loop μ-loop) where
   times =
       c .times-listed .ensures
       ∙ ap₂ {C = ℕ} listed
-      (later-is (shop decided) (order decided) (turn .loop2 .inv .0) few (here decided .loop .inv .4) (turn .loop2 .inv .2 .past) (omega (arith, turn .loop2 .inv .1)) _)
+      (later-is (shop decided) (order decided) (turn .loop2 .inv .0) few (here decided .loop .inv .3) (turn .loop2 .inv .2 .past) (omega (arith, turn .loop2 .inv .1)) _)
       (sym (goal-seen decided inside))
 
   enough : c .times-listed .result ≤ getD (here decided .loop .counts) (turn .loop2 .here + 1) 0
@@ -250,7 +249,7 @@ module _ (c : tie.After-times-listed Inv-loop2 μ-loop2 Inv-loop μ-loop) where
       omega (
         arith,
         times,
-        counted-enough (w decided) (place decided) (omega (arith, size decided, inside)) (here decided .loop .counts) (here decided .loop .inv .6) (turn .loop2 .here + 1)
+        counted-enough (w decided) (place decided) (omega (arith, size decided, inside)) (here decided .loop .counts) (here decided .loop .inv .5) (turn .loop2 .here + 1)
             (omega (arith, size decided, turn .loop2 .inv .0 .counts, turn .loop2 .inv .1)),
       )
 
@@ -264,19 +263,16 @@ run-spec =
     μ-loop
     (λ c κs. search needs)
     (λ c. search needs)
-    (λ c κs. search needs)
     (λ c. search needs)
     (λ c. search needs)
-    (λ c. search needs)
-    (λ c κs. let s = c .before .before .before .before .before .before .before .before .before .before in (omega arith, simp length-replicate (omega (arith, s .pre .1 .1 .0)), s .pre .1 .1 .0))
+    (λ c κs. let s = c .before .before .before .before .before .before .before .before in (omega arith, simp length-replicate (omega (arith, s .pre .1 .1 .0)), s .pre .1 .1 .0))
     (λ c.
-    let s = c .before .before .before .before .before .before .before .before .before .before .before .before in
-    let full : length (s .args .first .waiting .entries) ≡ 64 = omega (arith, simp length-map at (s .good .1 .1 .1 .1 .1 .0 .1 .1 .1 .0 .1 .1 .0 .1 .0 .1)) in
+    let s = c .before .before .before .before .before .before .before .before .before .before in
+    let full : length (s .args .first .waiting .entries) ≡ 64 = omega (arith, simp length-map at (s .good .1 .1 .1 .1 .0 .1 .1 .1 .0 .1 .1 .0 .1 .0 .1)) in
     let e = s .pre .1 .1 .1 in (
       running-start _ _ _,
       s .pre .1 .1 .0,
-      c .before .before .before .before .before .before .word .ensures,
-      c .before .before .before .before .before .word2 .ensures,
+      c .before .before .before .before .before .word .ensures,
       full,
       reached-first (s .args .first .atoms) e,
       counted-first (s .args .shop .now) (s .args .order .now) (s .pre .0 .checked) e (sym (list-length (s .args .shop .now) (s .args .order .now) (s .args .first .waiting) full (s .pre .1 .1 .0))) (c .before .fill .ensures),
@@ -294,8 +290,8 @@ run-spec =
     (λ c. search needs)
     (λ c. omega (arith, c .before .before .before .before .before .before .before .loop .inv .1))
     (λ c. search needs)
-    (λ c. omega (arith, c .before .before .before .before .before .before .before .before .loop .inv .1, c .before .before .before .before .before .before .before .before .loop .inv .7))
-    (λ c κs. (c .before .before .before .before .before .before .before .before .before .before .before .before .before .before .before .before .before .before .before .before .before .pre .0, c .before .before .before .before .before .before .before .before .loop .inv .1))
+    (λ c. omega (arith, c .before .before .before .before .before .before .before .before .loop .inv .1, c .before .before .before .before .before .before .before .before .loop .inv .6))
+    (λ c κs. (c .before .before .before .before .before .before .before .before .before .before .before .before .before .before .before .before .before .before .before .pre .0, c .before .before .before .before .before .before .before .before .loop .inv .1))
     (λ c. search needs)
     (λ c κs. c .before .before .before .before .before .before .before .before .before .before .before .before .loop .inv .1)
     (λ c κs. search needs)
@@ -312,17 +308,17 @@ run-spec =
     (λ c.
     let v = c .before .before .before .before .before in
     let h = below v _ (c .before .before .before .decision2 .given .1) in
-    (leaving-first (list v) (place v) h (here v .loop .inv .4), omega (arith, h), releasing-start _ _ _))
+    (leaving-first (list v) (place v) h (here v .loop .inv .3), omega (arith, h), releasing-start _ _ _))
     (λ c. omega (arith, c .before .loop2 .inv .0 .inside))
     (λ c. search needs)
     (λ c. let v = c .before .before .before .before .before .before .before in let l = c .before .loop2 in omega (arith, l .inv .0 .counts, l .inv .1, here v .loop .inv .1))
     (λ c. search needs)
     (λ c. search needs)
-    (λ c. let v = c .before .before .before .before .before .before .before .before in let l = c .before .before .loop2 in omega (arith, l .inv .0 .counts, l .inv .1, l .inv .2 .size, here v .loop .inv .1, here v .loop .inv .7))
+    (λ c. let v = c .before .before .before .before .before .before .before .before in let l = c .before .before .loop2 in omega (arith, l .inv .0 .counts, l .inv .1, l .inv .2 .size, here v .loop .inv .1, here v .loop .inv .6))
     (λ c κs. search needs)
     (λ c. let l = turn c .loop2 in omega (arith, enough c, l .inv .2 .rest (l .here + 1) (omega arith)))
     (λ c. search needs)
-    (λ c. let l = turn c .loop2 in omega (arith, l .inv .0 .counts, l .inv .0 .inside, l .inv .2 .size, here (decided c) .loop .inv .1, here (decided c) .loop .inv .7))
+    (λ c. let l = turn c .loop2 in omega (arith, l .inv .0 .counts, l .inv .0 .inside, l .inv .2 .size, here (decided c) .loop .inv .1, here (decided c) .loop .inv .6))
     (λ c. search needs)
     (λ c. let l = turn c .loop2 in omega (arith, l .inv .0 .counts, l .inv .0 .inside, here (decided c) .loop .inv .1))
     (λ c. search needs)
@@ -331,7 +327,7 @@ run-spec =
     let l = turn c .loop2 in (
       leaving-next (l .inv .0) (few c) _ (omega (arith, l .inv .1)),
       l .inv .1,
-      releasing-more _ _ _ _ _ (l .inv .2) (c .times-listed .result) (times c) (enough c) (omega (arith, l .inv .0 .counts, l .inv .0 .inside, here (decided c) .loop .inv .1, here (decided c) .loop .inv .7)),
+      releasing-more _ _ _ _ _ (l .inv .2) (c .times-listed .result) (times c) (enough c) (omega (arith, l .inv .0 .counts, l .inv .0 .inside, here (decided c) .loop .inv .1, here (decided c) .loop .inv .6)),
     ))
     (λ c. search needs)
     (λ c. omega arith)
@@ -345,24 +341,21 @@ run-spec =
       r .0,
       omega (arith, m .inv .0 .counts, l .inv .1),
       l .inv .2,
-      l .inv .3,
       m .inv .0 .long,
       r .1,
-      counted-left (w v) (place v) (omega (arith, size v, below v _ t)) e (sound-here v .ordered) _ _ (l .inv .6)
+      counted-left (w v) (place v) (omega (arith, size v, below v _ t)) e (sound-here v .ordered) _ _ (l .inv .5)
           (releasing-done _ _ _ _ _ (m .inv .2) (omega (arith, size v, m .inv .0 .counts, m .inv .0 .inside, m .inv .1))),
-      m .inv .2 .size ∙ l .inv .7,
+      m .inv .2 .size ∙ l .inv .6,
     ))
     (λ c. search needs)
     (λ c κs.
     let v = c .before .before .before .before .before .before .before in
     let k = known v _ (c .before .before .before .before .before .decision2 .given .1) _ (c .before .before .known .given .1) in
-    ((start v .args .ends .now, start v .pre .0), k))
+    (start v .pre .0, k))
     (λ c κs.
     let v = c .before .before .before .before .before .before .before .before in
     let k = known v _ (c .before .before .before .before .before .before .decision2 .given .1) _ (c .before .before .before .known .given .1) in
-    let h = start-inside (shop v) (order v) (start v .args .ends .now) (start v .args .starts .now) (start v .pre .0) _ (k .0) (k .1) in
-    let z = start-below (shop v) (order v) (start v .args .ends .now) (start v .args .starts .now) (start v .pre .0) _ (k .0) (k .1) in
-    ((h .0, h .1, omega (arith, here v .loop .inv .3, h .2)), omega (arith, here v .loop .inv .3, z)))
+    (_, start v .pre .0, k .0, k .1))
     (λ c. let v = c .before .before .before .before .before .before .before .before .before in omega (arith, here v .loop .inv .0 .few, more v, start v .pre .1 .0 .1))
     (λ c. search needs)
     (λ c. let v = c .before .before .before .before .before .before .before .before .before in omega (arith, here v .loop .inv .0 .cheap, more v, start v .pre .1 .0 .1))
@@ -370,8 +363,8 @@ run-spec =
     (λ c.
     let v = c .before .before .before .before .before .before .before .before .before in
     let l = here v .loop in
-    let r = acts v _ (c .before .before .before .before .before .before .before .decision2 .given .1) _ (c .before .before .before .before .known .given .1) _ (c .before .act .ensures) (c .cost-of .result) (c .cost-of .ensures) (omega arith) in
-    (r .0, l .inv .1, l .inv .2, l .inv .3, l .inv .4, r .1, l .inv .6, l .inv .7))
+    let r = acts v _ (c .before .before .before .before .before .before .before .decision2 .given .1) _ (c .before .before .before .before .known .given .1) _ (c .before .act .ensures) (c .action-cost .result) (c .action-cost .ensures) (omega arith) in
+    (r .0, l .inv .1, l .inv .2, l .inv .3, r .1, l .inv .5, l .inv .6))
     (λ c. search needs)
     (λ c. search needs)
     (λ c κs.
@@ -382,7 +375,7 @@ run-spec =
       start v .pre .0,
       (
         (known-method (start v .pre .0) (takes v _ t .known) k, omega (arith, more v, start v .pre .1 .0 .1), below v _ t, ap (λ (x : Entry). x .name) (goal-entry v (below v _ t))),
-        ((room v _ t _ k, l .inv .7), ((_, l .inv .5), (l .inv .6, is-free v _ t _ k))),
+        ((room v _ t _ k, l .inv .6), ((_, l .inv .4), (l .inv .5, is-free v _ t _ k))),
       ),
     ))
     (λ c. omega arith)
@@ -391,12 +384,12 @@ run-spec =
     let l = here v .loop in
     let d = c .before .decomposed in
     let r = uses v _ (c .before .before .before .before .before .before .before .before .decision2 .given .1) _ (c .before .before .before .before .before .known2 .given .1) _ (d .ensures .0 .0) in
-    (r .0, d .ensures .0 .1, l .inv .2, l .inv .3, omega (arith, simp length-map at (d .ok .1 .1 .0 .1 .0 .1)), r .1, d .ensures .1, d .kept .1 .1 .1 .1 .0 ∙ l .inv .7))
+    (r .0, d .ensures .0 .1, l .inv .2, omega (arith, simp length-map at (d .ok .1 .1 .0 .1 .0 .1)), r .1, d .ensures .1, d .kept .1 .1 .1 .0 ∙ l .inv .6))
     (λ c. omega arith)
     (λ c κs. c .before .loop .inv .1)
     (λ c.
     let l = c .before .before .loop in
-    let s = c .before .before .before .before .before .before .before .before .before .before .before .before .before .before .before in
+    let s = c .before .before .before .before .before .before .before .before .before .before .before .before .before in
     c .ended .ensures
     ∙ ap (λ (n : ℕ). endAnswer n (l .atoms) (length (entriesOf (l .waiting))) (l .count) (l .cost)) (l .inv .2)
     ∙ run-ended (s .args .shop .now) (s .args .order .now) (s .args .trace .now) (s .pre .1 .0 .0) (at-hand (s .args .shop .now) (s .args .order .now) (s .args .first .atoms) (s .args .first .waiting))

@@ -14,16 +14,18 @@ pub search-indexed-spec : {M : Type 1} → statement M
 search-indexed-spec =
     tie.close
     (tie.spec
-    (λ c κs. let s = c .before .before .before .before .before .before in (s .pre .0 .0, s .pre .1))
+    -- prepared-requires
+    (λ c κs. let s = c .before .before .before .before in (s .pre .0 .0, s .pre .1))
+    -- deepen-requires
     (λ c κs.
-    let p = c .before .before .before .before .before .before in
-    let s = p .before .before .before .before .before .before .before in
-    (p .prepared .ensures .0, p .prepared .ensures .1 .1 .1, s .pre .0 .1))
+    let p = c .before .before .before in
+    (p .prepared .ensures .0, p .prepared .ensures .1 .1 .1, p .before .before .before .before .before .pre .0 .1))
+    -- same-length
     (λ c. search needs)
-    (λ c. search needs)
+    -- returns
     (λ c.
-    let p = c .before .before .before .before .before .before .before in
-    let s = p .before .before .before .before .before .before .before in (
+    let p = c .before .before .before .before in
+    let s = p .before .before .before .before .before in (
       c .deepen .ensures .0
           ∙ ap₂ (λ (a : State) (w : List Waiting). prunedShortest (s .args .depth) (rulesOf (s .args .shop .now)) (record { state = a; waiting = w }))
           (p .prepared .ensures .1 .0) (p .prepared .ensures .1 .1 .0)

@@ -16,9 +16,9 @@ use Rattle.hgn.specs.Trace.{step}
 use Rattle.hgn.specs.Replay.{rulesOf}
 use Rattle.hgn.proofs.Checked.{shop-actions, shop-methods, shop-counts}
 use Rattle.scan.proofs.rows.word.Reads as word
-use Rattle.network.specs.Tables.{Indexed}
+use Rattle.spans.specs.Tables.{Indexed}
 use Rattle.network.proofs.Goals.{list-length}
-use Rattle.network.proofs.Tables.{shop-passes}
+use Rattle.spans.proofs.Tables.{shop-passes}
 use Rattle.freeness.proofs.free.is_free.Reads as is-free
 use Rattle.network.proofs.waiting.Waiting.goal.Reads as goal
 use Rattle.steps.specs.Moves.{Known}
@@ -50,24 +50,24 @@ use Rattle.search.proofs.explore.+moves+places.Lts-places as places-lts
 use Rattle.search.proofs.explore.+moves+places.{statement}
 use Rattle.search.proofs.explore.+moves+places.Tie.{close}
 
-abbrev μ-moves : Measures 3 moves-kinds.ps ℕ
-μ-moves κs a = a .1 .1 .1 .1 .1 .1 .1 .1 .0 + a .1 .1 .1 .1 .1 .1 .1 .1 .0
+abbrev μ-moves : Measures 2 moves-kinds.ps ℕ
+μ-moves κs a = a .1 .1 .1 .1 .1 .1 .1 .0 + a .1 .1 .1 .1 .1 .1 .1 .0
 
-abbrev μ-places : Measures 3 places-kinds.ps ℕ
-μ-places κs a = a .1 .1 .1 .1 .1 .1 .1 .1 .0 + a .1 .1 .1 .1 .1 .1 .1 .1 .0 + 1
+abbrev μ-places : Measures 2 places-kinds.ps ℕ
+μ-places κs a = a .1 .1 .1 .1 .1 .1 .1 .0 + a .1 .1 .1 .1 .1 .1 .1 .0 + 1
 
 -- What each is given at the measure t, and what a call of it asks below t.
-abbrev moves-at : ℕ → In 3 moves-kinds.ps
-moves-at t = and 3 moves-kinds.ps (is 3 moves-kinds.ps μ-moves t) moves.Pre
+abbrev moves-at : ℕ → In 2 moves-kinds.ps
+moves-at t = and 2 moves-kinds.ps (is 2 moves-kinds.ps μ-moves t) moves.Pre
 
-abbrev moves-below : ℕ → In 3 moves-kinds.ps
-moves-below t = and 3 moves-kinds.ps (falls 3 moves-kinds.ps _<_ μ-moves t) moves.Pre
+abbrev moves-below : ℕ → In 2 moves-kinds.ps
+moves-below t = and 2 moves-kinds.ps (falls 2 moves-kinds.ps _<_ μ-moves t) moves.Pre
 
-abbrev places-at : ℕ → In 3 places-kinds.ps
-places-at t = and 3 places-kinds.ps (is 3 places-kinds.ps μ-places t) places.Pre
+abbrev places-at : ℕ → In 2 places-kinds.ps
+places-at t = and 2 places-kinds.ps (is 2 places-kinds.ps μ-places t) places.Pre
 
-abbrev places-below : ℕ → In 3 places-kinds.ps
-places-below t = and 3 places-kinds.ps (falls 3 places-kinds.ps _<_ μ-places t) places.Pre
+abbrev places-below : ℕ → In 2 places-kinds.ps
+places-below t = and 2 places-kinds.ps (falls 2 places-kinds.ps _<_ μ-places t) places.Pre
 
 -- What is found with a step from `problem`, and with the steps behind it. The step before was `last` at `last-place`, from `b`.
 abbrev found-by : List ℕ → List ℕ → Problem → Problem → Move → Place → ℕ → ℕ → Step → Option (List Step)
@@ -75,22 +75,22 @@ found-by shop order problem b last last-place left number =
     tried (left - 1) (rulesOf shop) (problemIn shop order b) (step (moveNumber last) (last-place .0)) number (problemIn shop order problem)
 
 abbrev Inv-moves : moves-lts.InvT-loop
-Inv-moves shop order ends starts problem b last last-place left number goal place actions all atoms count i₀ i =
+Inv-moves shop order tables problem b last last-place left number goal place actions all atoms count i₀ i =
     (movesFrom (found-by shop order problem b last last-place left number) (domain shop) (place .0) 0
     ≡ movesFrom (found-by shop order problem b last last-place left number) (domain shop) (place .0) i)
     × (i ≤ all + 1)
 
 abbrev ν-moves : moves-lts.MeasureT-loop
-ν-moves shop order ends starts problem b last last-place left number goal place actions all atoms count i₀ i = all + 1 - i
+ν-moves shop order tables problem b last last-place left number goal place actions all atoms count i₀ i = all + 1 - i
 
 abbrev Inv-places : places-lts.InvT-loop
-Inv-places shop order ends starts problem b last last-place left number waiting count i₀ i =
+Inv-places shop order tables problem b last last-place left number waiting count i₀ i =
     (placesFrom (found-by shop order problem b last last-place left number) (domain shop) (problemIn shop order problem .waiting) 0
     ≡ placesFrom (found-by shop order problem b last last-place left number) (domain shop) (problemIn shop order problem .waiting) i)
     × (i ≤ count)
 
 abbrev ν-places : places-lts.MeasureT-loop
-ν-places shop order ends starts problem b last last-place left number waiting count i₀ i = count - i
+ν-places shop order tables problem b last last-place left number waiting count i₀ i = count - i
 
 -- What the callees of each promise.
 abbrev moves-claims : ℕ → moves-lts.Claims
@@ -134,7 +134,7 @@ module _ {t : ℕ} where
     abbrev moves-by : Step → Option (List Step)
     moves-by = found-by moves-shop (s .args .order .now) (s .args .problem) (s .args .before) (s .args .last) (s .args .last-place) (s .args .left) (s .args .number)
 
-    moves-ix : Indexed moves-shop (s .args .order .now) (s .args .ends .now) (s .args .starts .now)
+    moves-ix : Indexed moves-shop (s .args .order .now) (s .args .tables .now)
     moves-ix = s .pre .1 .0
 
     some-left : 1 ≤ s .args .left
@@ -143,11 +143,11 @@ module _ {t : ℕ} where
     moves-fit : s .args .number + s .args .left ≤ 32
     moves-fit = s .pre .1 .1 .0 .2
 
-    trial : Trial moves-shop (s .args .order .now) (s .args .ends .now) (s .args .starts .now) (s .args .problem) (s .args .before)
+    trial : Trial moves-shop (s .args .order .now) (s .args .tables .now) (s .args .problem) (s .args .before)
         (step (moveNumber (s .args .last)) (s .args .last-place .0)) (s .args .left - 1) (s .args .number) (s .args .place .0)
     trial = record {
       ix = moves-ix;
-      full = omega (arith, simp length-map at (s .good .1 .1 .1 .1 .0 .1 .1 .1 .0 .1 .1 .0 .1 .0 .1));
+      full = omega (arith, simp length-map at (s .good .1 .1 .1 .0 .1 .1 .1 .0 .1 .1 .0 .1 .0 .1));
       few = s .pre .1 .1 .0 .0;
       inside = s .pre .1 .1 .1 .1 .0 .0;
     }
@@ -161,7 +161,7 @@ module _ {t : ℕ} where
 
   module _ (l : Moves-loop t) where
     abbrev moves-begun : Moves-start t
-    moves-begun = l .before .before .before .before .before .before .before .before .before
+    moves-begun = l .before .before .before .before .before .before .before .before
 
     actions-are : l .before .before .before .before .word .result ≡ actionCount (moves-shop moves-begun)
     actions-are = l .before .before .before .before .word .ensures
@@ -239,7 +239,7 @@ module _ {t : ℕ} where
     size : length (places-problem .waiting) ≡ s .args .problem .waiting .count
     size =
         list-length (s .args .shop .now) (s .args .order .now) (s .args .problem .waiting)
-        (omega (arith, simp length-map at (s .good .1 .1 .1 .1 .0 .1 .1 .1 .0 .1 .1 .0 .1 .0 .1))) few
+        (omega (arith, simp length-map at (s .good .1 .1 .1 .0 .1 .1 .1 .0 .1 .1 .0 .1 .0 .1))) few
 
     -- The search of so many steps.
     abbrev searched-by : ℕ → Option (List Step)
@@ -247,7 +247,7 @@ module _ {t : ℕ} where
 
   module _ (l : Places-loop t) where
     abbrev places-begun : Places-start t
-    places-begun = l .before .before .before .before .before .before .before
+    places-begun = l .before .before .before .before .before .before
 
     more : 1 ≤ places-begun .args .left
     more = omega (arith, l .before .if1 .left)
@@ -288,7 +288,7 @@ pub +moves+places-spec : {M : Type 1} → statement M
     moves-lts.spec (moves-claims t) (moves-at t) moves.Post Inv-moves ν-moves
     (λ c κs. search needs)
     (λ c κs. search needs)
-    (λ c. let s = c .before .before .before .before .before .before in omega (arith, c .word2 .ensures, c .before .word .ensures, few-moves s))
+    (λ c. let s = c .before .before .before .before .before in omega (arith, c .word2 .ensures, c .before .word .ensures, few-moves s))
     (λ c. (refl, omega arith))
     (λ c. search needs)
     (λ c. let l = looped c in omega (arith, c .before .loop-test .taken, actions-are l, methods-are l, few-moves (begun c)))
@@ -347,7 +347,7 @@ pub +moves+places-spec : {M : Type 1} → statement M
     places-lts.spec (places-claims t) (places-at t) places.Post Inv-places ν-places
     (λ c. search needs)
     (λ c.
-    let s = c .before .before .before .before .before .before .before in
+    let s = c .before .before .before .before .before .before in
     ap {B = Option (List Step)} (λ (j : ℕ). foundOf (s .args .number) j (c .empty .result)) (c .before .if1 .taken)
     ∙ found-at-end _ _ _ _ _ (places-problem s .waiting) _ (size s) (c .empty .result) (c .empty .ensures)
     ∙ ap {B = Option (List Step)} (searched-by s) (sym (c .before .if1 .taken)))

@@ -7,11 +7,11 @@ pub open-at-spec : {M : Type 1} → statement M
 open-at-spec =
     tie.close
     (tie.spec
-    (λ c κs. c .before .before .before .before .pre .2)
+    (λ c κs. c .before .before .before .pre .2)
     (λ c. open-crowded _ _ _ _ _ _ (c .before .crowded .ensures) (c .if1 .taken))
-    (λ c κs. let s = c .before .before .before .before .before .before in (s .pre .0, s .pre .1))
-    (λ c κs. let s = c .before .before .before .before .before .before .before .before in (s .pre .0, s .pre .1))
-    (λ c κs. let s = c .before .before .before .before .before .before .before .before .before .before in (s .pre .0, s .pre .1))
+    (λ c κs. let s = c .before .before .before .before .before in (s .pre .0, s .pre .1))
+    (λ c κs. let s = c .before .before .before .before .before .before .before in (s .pre .0, s .pre .1))
+    (λ c κs. let s = c .before .before .before .before .before .before .before .before .before in (s .pre .0, s .pre .1))
     (λ c.
     let f = c .before .before .before .before in
     open-idle _ _ _ _ _ _ (f .before .before .before .crowded .ensures) (f .before .before .if1 .left) (f .before .ready .ensures) (f .if2 .taken)

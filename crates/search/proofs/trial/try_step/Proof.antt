@@ -26,11 +26,11 @@ module _ (s : tie.Start) where
   known : Known (actionCount (s .args .shop .now)) (methodCount (s .args .shop .now)) (s .args .mv)
   known = s .pre .1 .1 .0 .1
 
-  trial : Trial (s .args .shop .now) (s .args .order .now) (s .args .ends .now) (s .args .starts .now) (s .args .problem) (s .args .before) last-step
+  trial : Trial (s .args .shop .now) (s .args .order .now) (s .args .tables .now) (s .args .problem) (s .args .before) last-step
       (s .args .left) (s .args .number) (s .args .place .0)
   trial = record {
     ix = s .pre .0;
-    full = omega (arith, simp length-map at (s .good .1 .1 .1 .1 .0 .1 .1 .1 .0 .1 .1 .0 .1 .0 .1));
+    full = omega (arith, simp length-map at (s .good .1 .1 .1 .0 .1 .1 .1 .0 .1 .1 .0 .1 .0 .1));
     few = s .pre .1 .0 .1;
     inside = s .pre .1 .0 .0;
   }
@@ -38,7 +38,7 @@ module _ (s : tie.Start) where
 -- The step could not go first, by either way past that test.
 module _ (c : tie.After-waiting) where
   abbrev begun : tie.Start
-  begun = c .before .before .before .before .before .before .before
+  begun = c .before .before .before .before .before .before
 
   not-first : couldGoFirst (domain (begun .args .shop .now)) (problemIn (begun .args .shop .now) (begun .args .order .now) (begun .args .before))
       (last-step begun) (step (moveNumber (begun .args .mv)) (begun .args .place .0)) ≡ false
@@ -55,36 +55,36 @@ try-step-spec =
     tie.close
     (tie.spec
     (λ c. search needs)
-    (λ c κs. let s = c .before .before .before .before .before .before in ((s .pre .0, s .pre .1 .0 .2), s .pre .1 .1 .0))
+    (λ c κs. let s = c .before .before .before .before .before in ((s .pre .0, s .pre .1 .0 .2), s .pre .1 .1 .0))
     (λ c. search needs)
     (λ c.
-    let s = c .before .before .before .before .before .before .before .before .before in
+    let s = c .before .before .before .before .before .before .before .before in
     tries-first (trial s) (s .args .mv) (known s) (c .out .ensures) (told (c .before .before .could-go-first .ensures) (c .before .if2 .taken)))
     (λ c κs.
-    let s = c .before .before .before .before .before .before .before in
+    let s = c .before .before .before .before .before .before in
     ((s .pre .0, known s), (omega (arith, s .pre .1 .0 .0), s .pre .1 .0 .1)))
     (λ c. search needs)
     (λ c.
-    let s = c .before .before .before .before .before .before .before .before .before .before in
+    let s = c .before .before .before .before .before .before .before .before .before in
     tries-lower (trial s) (s .args .mv) (known s) (c .out2 .ensures) (told (c .before .before .lower-too .ensures) (c .before .if3 .taken)))
     (λ c κs.
-    let s = c .before .before .before .before .before .before .before .before .before in
+    let s = c .before .before .before .before .before .before .before .before in
     (s .pre .0, ((s .pre .1 .0 .0, s .pre .1 .0 .1), (known s, s .pre .1 .0 .3))))
     (λ c. search needs)
     (λ c.
     let f = c .before .before .before in
-    let s = f .before .before .before .before .before .before .before .before .before .before in
+    let s = f .before .before .before .before .before .before .before .before .before in
     tries-refused (trial s) (s .args .mv) (known s) (s .pre .1 .1 .1 .0) (f .take-move .ensures) (c .out3 .ensures) (c .before .if4 .taken))
     (λ c κs. c .before .before .before .take-move .ensures .within)
     (λ c. search needs)
     (λ c.
     let f = c .before .before .before .before .before .before in
-    let s = f .before .before .before .before .before .before .before .before .before .before in
+    let s = f .before .before .before .before .before .before .before .before .before in
     tries-few (trial s) (s .args .mv) (known s) (s .pre .1 .1 .1 .0) (f .take-move .ensures) (c .before .before .before .before .if4 .left) (c .out4 .ensures)
     (told (c .before .before .too-few-left .ensures) (c .before .if5 .taken)))
     (λ c.
     let f = c .before .before .before .before .before in
-    let s = f .before .before .before .before .before .before .before .before .before .before in
+    let s = f .before .before .before .before .before .before .before .before .before in
     tries-kept (trial s) (s .args .mv) (known s) (s .pre .1 .1 .1 .0) (f .take-move .ensures) (c .before .before .before .if4 .left) refl refl
     (s .pre .1 .1 .1 .1) (told (f .before .before .lower-too .ensures) (f .before .if3 .left)) (told (c .before .too-few-left .ensures) (c .if5 .left))
     (not-first (f .before .before .before))))

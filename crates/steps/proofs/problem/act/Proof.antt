@@ -1,23 +1,21 @@
--- An action's rows stand from its start up to the next. Assumes nothing.
-use native.Mathlib.Omega.{arith}
-use mathlib.Core.Path.{ap, _∙_}
+-- The action's rows are found, and the state is changed by them. Assumes nothing.
+use mathlib.Core.Path.{sym, ap, _∙_}
 use borrow.Author.Needs.{needs}
+use Rattle.hgn.specs.Meaning.{Action, actionOf}
 use Rattle.hgn.specs.State.{γ}
-use Rattle.network.proofs.Tables.{starts-fit}
-use Rattle.steps.proofs.Decided.{effects-are}
 use Rattle.steps.proofs.problem.act.Statement.{statement}
 use Rattle.steps.proofs.problem.act.Tie as tie
 
 pub act-spec : {M : Type 1} → statement M
+unfolding actionOf
 act-spec =
     tie.close
     (tie.spec
-    (λ c. search needs)
-    (λ c. search needs)
-    (λ c. let s = c .before .before .before .before in omega (arith, starts-fit (s .pre .0 .1), s .pre .1))
-    (λ c. search needs)
-    (λ c. let s = c .before .before .before .before .before in omega (arith, starts-fit (s .pre .0 .1), s .pre .1))
+    -- action-rows-requires
+    (λ c κs. let p = c .before .before .before .pre in (_, _, p .0, p .1 .0, p .1 .1))
+    -- change-requires
     (λ c κs. search needs)
+    -- returns
     (λ c.
-    let s = c .before .before .before .before .before .before .before in
-    c .change .ensures ∙ ap (γ (s .args .atoms .now)) (effects-are (s .pre .0 .1) (s .args .action) (s .pre .1 .0) (s .pre .1 .1))))
+    let s = c .before .before .before .before .before .before in
+    c .change .ensures ∙ ap (λ (a : Action). γ (s .args .atoms .now) (a .effects)) (sym (c .before .before .action-rows .ensures _ _ (s .pre .0) (s .pre .1 .1)))))

@@ -7,7 +7,7 @@ use borrow.Author.Needs.{needs}
 use Rattle.hgn.specs.Rows.{row, valuesOf}
 use Rattle.hgn.specs.State.{assign, γ}
 use Rattle.hgn.specs.Meaning.{literals}
-use Rattle.formulas.specs.Spanned.{spanRows}
+use Rattle.spans.specs.Index.{spanRows}
 use Rattle.steps.proofs.Changes.{changes}
 use Rattle.steps.proofs.problem.change.Statement.{statement}
 use Rattle.steps.proofs.problem.change.Tie as tie

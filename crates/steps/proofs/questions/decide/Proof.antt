@@ -7,7 +7,7 @@ use Rattle.steps.proofs.questions.decide.Tie as tie
 -- Where the move was read.
 module _ (r : tie.After-read) where
   abbrev start : tie.Start
-  start = r .before .before .before .before .before .before .before .before .before
+  start = r .before .before .before .before .before .before .before .before
 
 pub decide-spec : {M : Type 1} → statement M
 decide-spec =
@@ -45,4 +45,4 @@ decide-spec =
     decide-held (start r .pre .0) _ _ _ _ _ P l (r .before .before .before .if1 .taken) (r .before .before .word .ensures) (r .before .word2 .ensures) (r .read .result) (r .read .ensures)
     (c .before .before .before .reading .given .1) (c .before .if2 .left) _ (c .by2 .ensures))
     (λ c κs. search needs)
-    (λ c P l. decide-past (c .before .before .before .before .before .before .before .pre .0) _ _ _ _ _ P l (c .before .if1 .left) _ (c .by3 .ensures)))
+    (λ c P l. decide-past (c .before .before .before .before .before .before .pre .0) _ _ _ _ _ P l (c .before .if1 .left) _ (c .by3 .ensures)))

@@ -19,12 +19,12 @@ use Rattle.steps.proofs.step.step.Statement.{statement}
 use Rattle.steps.proofs.step.step.Tie as tie
 
 full : (s : tie.Start) → length (s .args .problem .waiting .entries) ≡ 64
-full s = omega (arith, simp length-map at (s .good .1 .1 .1 .1 .0 .1 .1 .1 .0 .1 .1 .0 .1 .0 .1))
+full s = omega (arith, simp length-map at (s .good .1 .1 .1 .0 .1 .1 .1 .0 .1 .1 .0 .1 .0 .1))
 
 -- Where the step was decided.
 module _ (v : tie.After-decide) where
   abbrev start : tie.Start
-  start = v .before .before .before .before .before .before .before .before .before
+  start = v .before .before .before .before .before .before .before .before
 
   abbrev shop : List ℕ
   shop = start .args .shop .now
@@ -52,10 +52,10 @@ pub step-spec : {M : Type 1} → statement M
 step-spec =
     tie.close
     (tie.spec
-    (λ c κs. c .before .before .before .before .before .before .pre .1 .0)
-    (λ c κs. let s = c .before .before .before .before .before .before .before .before in (s .pre .0, s .pre .1 .0))
+    (λ c κs. c .before .before .before .before .before .pre .1 .0)
+    (λ c κs. let s = c .before .before .before .before .before .before .before in (s .pre .0, s .pre .1 .0))
     (λ c. search needs)
-    (λ c κs. c .before .before .before .before .before .before .before .before .before .before .before .before .pre .1 .0)
+    (λ c κs. c .before .before .before .before .before .before .before .before .before .before .before .pre .1 .0)
     (λ c κs. search needs)
     (λ c. search needs)
     (λ c κs.

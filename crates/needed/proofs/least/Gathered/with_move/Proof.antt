@@ -4,7 +4,7 @@ use mathlib.Core.Path.{refl, subst}
 use borrow.Author.Needs.{needs}
 use Rattle.hgn.specs.Replay.{rulesOf}
 use Rattle.hgn.proofs.Checked.{shop-counts}
-use Rattle.network.proofs.Tables.{shop-passes}
+use Rattle.spans.proofs.Tables.{shop-passes}
 use Rattle.pruning.specs.Needed.{Needed}
 use Rattle.needed.specs.Gathered.{problemAt}
 use Rattle.needed.proofs.Gathering.{block-below, block-method}
@@ -13,18 +13,18 @@ use Rattle.needed.proofs.least.Gathered.with_move.Tie as tie
 
 with-nodes-requires : tie.Need-with-nodes-requires
 with-nodes-requires c κs =
-    let s = c .before .before .before .before .before .before .before in
+    let s = c .before .before .before .before .before .before in
     (s .pre .0, omega (arith, c .if1 .left, c .before .before .word .ensures, s .pre .1), s .pre .2)
 
 with-method-requires : tie.Need-with-method-requires
 with-method-requires c κs =
-    let s = c .before .before .before .before .before .before .before in
+    let s = c .before .before .before .before .before .before in
     (s .pre .0, omega arith, omega (arith, c .if1 .taken, c .before .before .word .ensures), s .pre .3)
 
 returns : tie.Need-returns
 returns c n h =
     let b = c .before .before .before in
-    let s = b .before .before .before .before .before in
+    let s = b .before .before .before .before in
     let a = s .args in
     let k = shop-counts _ (shop-passes (s .pre .0)) in
     c .with-method .ensures _
@@ -35,7 +35,7 @@ returns c n h =
 returns-2 : tie.Need-returns-2
 returns-2 c n h =
     let b = c .before .before .before in
-    let s = b .before .before .before .before .before in
+    let s = b .before .before .before .before in
     let a = s .args in
     let k = shop-counts _ (shop-passes (s .pre .0)) in
     c .with-nodes .ensures _ refl

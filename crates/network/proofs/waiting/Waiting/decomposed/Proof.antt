@@ -1,11 +1,9 @@
--- A method's nodes are read along the index and enter. Assumes nothing.
+-- A method's nodes are read along the table and enter. Assumes nothing.
 use native.Mathlib.Omega.{arith}
 use mathlib.Core.Path.{_≡_}
 use lib.ListN.{length, length-map}
 use borrow.Author.Needs.{needs}
-use Rattle.network.proofs.Tables.{starts-fit}
-use Rattle.network.proofs.Uses.{from-fits, from-few, method-read}
-use Rattle.network.proofs.Uses.{method-size}
+use Rattle.spans.proofs.OperatorRows.{method-size}
 use Rattle.network.proofs.Decomposing.{list-decomposed}
 use Rattle.network.proofs.waiting.Waiting.decomposed.Statement.{statement}
 use Rattle.network.proofs.waiting.Waiting.decomposed.Tie as tie
@@ -17,32 +15,26 @@ pub decomposed-spec : {M : Type 1} → statement M
 decomposed-spec =
     tie.close
     (tie.spec
-    (λ c κs. search needs)
-    (λ c. search needs)
-    (λ c. search needs)
-    (λ c. search needs)
-    (λ c. let s = c .before .before .before .before .before in omega (arith, starts-fit (s .pre .0 .1), c .before .word .ensures, s .pre .1 .0 .0))
-    (λ c. search needs)
-    (λ c. search needs)
-    (λ c. let s = c .before .before .before .before .before .before in omega (arith, starts-fit (s .pre .0 .1), c .before .before .word .ensures, s .pre .1 .0 .0))
-    (λ c. let s = c .before .before .before .before .before .before in omega (arith, from-few (s .pre .0 .1) _ (s .pre .1 .0 .0) _ (c .before .before .word .ensures)))
-    (λ c. let s = c .before .before .before .before .before .before in omega (arith, from-few (s .pre .0 .1) _ (s .pre .1 .0 .0) _ (c .before .before .word .ensures)))
-    (λ c. let s = c .before .before .before .before .before .before .before in omega (arith, from-fits (s .pre .0 .1) _ (s .pre .1 .0 .0) _ (c .before .before .before .word .ensures)))
+    -- method-rows-requires
+    (λ c κs. let p = c .before .before .pre in (p .0 .0, p .0 .1, p .1 .0 .0))
+    -- nodes-between-requires
     (λ c κs.
-    let s = c .before .before .before .before .before .before .before in
-    let a = method-read (s .pre .0 .1) _ (s .pre .1 .0 .0) _ (c .before .before .before .word .ensures) in
+    let s = c .before .before .before in
+    let a = c .method-rows .ensures _ (s .pre .0 .1) in
     (a .bs, a .walk, omega (arith, a .few)))
+    -- entered-requires
     (λ c κs.
-    let s = c .before .before .before .before .before .before .before .before in
-    let a = method-read (s .pre .0 .1) _ (s .pre .1 .0 .0) _ (c .before .before .before .before .word .ensures) in
+    let s = c .before .before .before .before in
+    let a = c .before .method-rows .ensures _ (s .pre .0 .1) in
     let n = c .nodes-between .ensures (a .bs) (a .walk) .number in
     ((a .bs, a .walk, n), (omega (arith, s .pre .1 .0 .2), omega (arith, n, method-size a, s .pre .1 .1))))
+    -- returns
     (λ c.
-    let s = c .before .before .before .before .before .before .before .before .before in
-    let b = method-read (s .pre .0 .1) _ (s .pre .1 .0 .0) _ (c .before .before .before .before .before .word .ensures) in
+    let s = c .before .before .before .before .before in
+    let b = c .before .before .method-rows .ensures _ (s .pre .0 .1) in
     let n = c .before .nodes-between .ensures (b .bs) (b .walk) .number in (
       (λ order i.
-          let a = method-read i _ (s .pre .1 .0 .0) _ (c .before .before .before .before .before .word .ensures) in
+          let a = c .before .before .method-rows .ensures order i in
           list-decomposed a _ (s .pre .1 .0 .1) _ (full s) (omega (arith, s .pre .1 .1)) _ (s .pre .1 .0 .2) _ (s .pre .1 .0 .3) (c .entered .ensures .0 (a .bs) (a .walk))),
       omega (arith, c .entered .ensures .1, n, method-size b, s .pre .1 .1),
     )))

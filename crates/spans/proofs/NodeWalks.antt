@@ -5,7 +5,7 @@ use mathlib.Core.Path.{_≡_, refl, sym, ap, ap₂, _∙_, subst}
 use mathlib.Core.Logic.{_≢_}
 use mathlib.Core.List.{List, [], _∷_, _++_, append-assoc, append-nil}
 use lib.ListN.{length, getD, length-append}
-use Rattle.network.specs.Entering.{Bounds, Walk, stop, next, Counted}
+use Rattle.spans.specs.Tables.{Bounds, Walk, stop, next, NodesCounted}
 
 -- What a walk says before its end.
 pub record Ahead (table : List ℕ) (e n : ℕ) (bs : List Bounds) : Type 0 where
@@ -71,7 +71,7 @@ module _ {table : List ℕ} {e : ℕ} where
       }
 
   pub passed-all : {n : ℕ} {bs cs : List Bounds} {count last row : ℕ} → Walk table e n bs → Passed table e bs count last row → e ≤ row → Walk table e n cs
-      → Counted e cs (record { count = count; last = last })
+      → NodesCounted e cs (record { count = count; last = record { 0 = last } })
   passed-all {bs = bs} {cs = cs} {last = last} {row = row} w p h v =
       let same : p .done ≡ cs = sym (append-nil (p .done)) ∙ sym (p .split ∙ ap {B = List Bounds} (λ l. p .done ++ l) (at-end h (p .onward))) ∙ walk-same w v in
       record {

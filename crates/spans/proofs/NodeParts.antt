@@ -9,9 +9,9 @@ use borrow.Author.Tests.{ltb-true, ltb-false}
 use Rattle.hgn.specs.Lists.{parts}
 use Rattle.hgn.specs.Rows.{Row, has}
 use Rattle.hgn.specs.Tag as Tag
 use Rattle.spans.specs.Index.{ends, span}
 use Rattle.spans.proofs.Spans.{by-test, span-empty, part-end, NodesFrom, next-node}
-use Rattle.network.specs.Entering.{Bounds, Walk, stop, next}
+use Rattle.spans.specs.Tables.{Bounds, Walk, stop, next}
 
 -- `table` has the ends of these rows, and `part` hands back the rows between bounds.
 module _ (rows : List Row) (table : List ℕ) (fit : length rows ≤ length table)
