@@ -7,11 +7,11 @@ use mathlib.Core.Bool.{Bool, true, false, cond, true≢false, and-eq-true-iff}
 use mathlib.Core.Logic.{_≢_}
 use mathlib.Core.List.{List, [], _∷_, _++_}
 use lib.Dec.{eqb}
-use lib.ListN.{length, getD, length-map}
+use lib.ListN.{length, length-map}
 use borrow.Author.Tests.{eq-eqb, ne-eqb, eqb-true, le-leb, lt-leb, leb-true}
 use Rattle.hgn.specs.Lists.{among, any, parts, upTo}
 use Rattle.hgn.specs.Questions.{_asks_, _askedAt_, Verdict, passed, refused, firstNo}
-use Rattle.hgn.specs.Rows.{Row, has, rowQuestions, positionAfter}
+use Rattle.hgn.specs.Rows.{Row, mostRows, has, rowQuestions, positionAfter}
 use Rattle.hgn.specs.Tag as Tag
 use Rattle.hgn.specs.Meaning.{nodesOf, nodeOf, orderOf}
 use Rattle.hgn.specs.Shop as Shop
@@ -23,7 +23,6 @@ use Rattle.reading.specs.Reading.{positionOf}
 use Rattle.reading.specs.Refusals.{refusalOf}
 use Rattle.scan.specs.Tally.{foundIn, closed}
 use Rattle.scan.specs.Scanned.{Scanned, questionsOf}
-use Rattle.sheets.specs.Answers.{shopSizes, orderSizes}
 use Rattle.reading.specs.declared.position.Sheet.{Sheet}
 use Rattle.reading.specs.declared.position.Sheet.the-variants as Of
 use Rattle.scan.specs.declared.rows.Scan.{Scan}
@@ -38,29 +37,28 @@ rows-numbered Of.Order F rows =
     rows-numbers (λ k. k ≢ 0) (λ k l. omega arith) Tag.orderFollow 14 F 0 Tag.opening rows (omega arith) (omega arith) (omega arith)
 
 module _ (shop : List ℕ) where
-  pub shop-short : length shop < 4 → Shop.checkShop shop ≡ refused ((1 asks false) .refusal)
+  pub shop-short : length shop < Shop.sizeWords → Shop.checkShop shop ≡ refused ((1 asks false) .refusal)
   unfolding Shop.checkShop Shop.shopQuestions firstNo
-  shop-short h = rw (lt-leb 4 (length shop) h)
+  shop-short h = rw (lt-leb Shop.sizeWords (length shop) h)
 
-  sizes-same : Shop.sizesInRange shop ≡ shopSizes (getD shop 0 0) (getD shop 1 0) (getD shop 2 0) (getD shop 3 0)
-  unfolding Shop.sizesInRange shopSizes
-  sizes-same = refl
-
-  module _ (long : 4 ≤ length shop) where
-    pub shop-sizes-no : shopSizes (getD shop 0 0) (getD shop 1 0) (getD shop 2 0) (getD shop 3 0) ≡ false
-        → Shop.checkShop shop ≡ refused ((2 asks false) .refusal)
+  module _ (long : Shop.sizeWords ≤ length shop) where
+    pub shop-sizes-no : Shop.sizesInRange shop ≡ false → Shop.checkShop shop ≡ refused ((2 asks false) .refusal)
     unfolding Shop.checkShop Shop.shopQuestions firstNo
-    shop-sizes-no e = rw (le-leb 4 (length shop) long, sizes-same ∙ e)
+    shop-sizes-no e = rw (le-leb Shop.sizeWords (length shop) long, e)
 
-    module _ (sizes : shopSizes (getD shop 0 0) (getD shop 1 0) (getD shop 2 0) (getD shop 3 0) ≡ true) where
-      pub shop-length-no : length shop ≢ 4 + 2 * getD shop 3 0 → Shop.checkShop shop ≡ refused ((3 asks false) .refusal)
+    module _ (sizes : Shop.sizesInRange shop ≡ true) where
+      pub shop-length-no : length shop ≢ Shop.sizeWords + 2 * Shop.rowCount shop → Shop.checkShop shop ≡ refused ((3 asks false) .refusal)
       unfolding Shop.checkShop Shop.shopQuestions firstNo
-      shop-length-no e = rw (le-leb 4 (length shop) long, sizes-same ∙ sizes, ne-eqb (length shop) (4 + 2 * getD shop 3 0) e)
+      shop-length-no e = rw (le-leb Shop.sizeWords (length shop) long, sizes, ne-eqb (length shop) (Shop.sizeWords + 2 * Shop.rowCount shop) e)
 
-      pub shop-rest : length shop ≡ 4 + 2 * getD shop 3 0
+      pub shop-rest : length shop ≡ Shop.sizeWords + 2 * Shop.rowCount shop
           → Shop.checkShop shop ≡ firstNo (questionsOf Of.Shop (Shop.atomCount shop) (Shop.shopRows shop) ++ Shop.shopEndQuestions shop)
       unfolding Shop.checkShop Shop.shopQuestions firstNo
-      shop-rest e = rw (le-leb 4 (length shop) long, sizes-same ∙ sizes, eq-eqb (length shop) (4 + 2 * getD shop 3 0) e)
+      shop-rest e = rw (le-leb Shop.sizeWords (length shop) long, sizes, eq-eqb (length shop) (Shop.sizeWords + 2 * Shop.rowCount shop) e)
+
+  pub shop-rows-few : Shop.sizesInRange shop ≡ true → Shop.rowCount shop ≤ mostRows
+  unfolding Shop.sizesInRange
+  shop-rows-few e = let s = simp and-eq-true-iff at e in omega (arith, leb-true)
 
 -- What is asked of a shop sheet after its rows, question by question.
 module _ (shop : List ℕ) (s : Scan) (sc : Scanned Of.Shop (Shop.atomCount shop) (Shop.shopRows shop) s) (z : s .refusal .number ≡ 0) where
@@ -130,14 +128,14 @@ order-tag : (c : Tag.Context) (t : ℕ) → among t (Tag.orderFollow c) ≡ true
 unfolding among any Tag.orderFollow
 order-tag c t e = go (eqb t Tag.method) refl c e
   where
-    go : (b : Bool) → eqb t 2 ≡ b → (c : Tag.Context) → among t (Tag.orderFollow c) ≡ true → b ≡ false
+    go : (b : Bool) → eqb t Tag.method ≡ b → (c : Tag.Context) → among t (Tag.orderFollow c) ≡ true → b ≡ false
     go false q c e = refl
-    go true q Tag.atStart e = sym (rw (eqb-true t 2 q) at e)
+    go true q Tag.atStart e = sym (rw (eqb-true t Tag.method q) at e)
     go true q Tag.inAction e = sym e
     go true q Tag.inEffects e = sym e
     go true q Tag.inMethod e = sym e
-    go true q Tag.inNode e = sym (rw (eqb-true t 2 q) at e)
-    go true q Tag.inAlternative e = sym (rw (eqb-true t 2 q) at e)
+    go true q Tag.inNode e = sym (rw (eqb-true t Tag.method q) at e)
+    go true q Tag.inAlternative e = sym (rw (eqb-true t Tag.method q) at e)
 
 nodes-passed : (F i : ℕ) (p : Tag.Position) (rows : List Row) → firstNo (rowQuestions Tag.orderFollow 14 F i p rows) ≡ passed
     → positionAfter p rows .nodes ≡ p .nodes + length (parts (has Tag.node) rows)
@@ -157,30 +155,30 @@ nodes-passed F i p (r ∷ rows) e =
     count false false q = refl
 
 module _ (shop order : List ℕ) where
-  pub order-short : length order < 3 → firstNo (Order.orderQuestions shop order) ≡ refused ((11 asks false) .refusal)
+  pub order-short : length order < Order.sizeWords → firstNo (Order.orderQuestions shop order) ≡ refused ((11 asks false) .refusal)
   unfolding Order.orderQuestions firstNo
-  order-short h = rw (lt-leb 3 (length order) h)
+  order-short h = rw (lt-leb Order.sizeWords (length order) h)
 
-  order-sizes-same : Order.sizesInRange shop order ≡ orderSizes (getD shop 0 0) (getD order 0 0) (getD order 1 0) (getD order 2 0)
-  unfolding Order.sizesInRange orderSizes
-  order-sizes-same = refl
-
-  module _ (long : 3 ≤ length order) where
-    pub order-sizes-no : orderSizes (getD shop 0 0) (getD order 0 0) (getD order 1 0) (getD order 2 0) ≡ false
-        → firstNo (Order.orderQuestions shop order) ≡ refused ((12 asks false) .refusal)
+  module _ (long : Order.sizeWords ≤ length order) where
+    pub order-sizes-no : Order.sizesInRange shop order ≡ false → firstNo (Order.orderQuestions shop order) ≡ refused ((12 asks false) .refusal)
     unfolding Order.orderQuestions firstNo
-    order-sizes-no e = rw (le-leb 3 (length order) long, order-sizes-same ∙ e)
+    order-sizes-no e = rw (le-leb Order.sizeWords (length order) long, e)
 
-    module _ (sizes : orderSizes (getD shop 0 0) (getD order 0 0) (getD order 1 0) (getD order 2 0) ≡ true) where
-      pub order-length-no : length order ≢ 3 + 2 * getD order 2 0 → firstNo (Order.orderQuestions shop order) ≡ refused ((13 asks false) .refusal)
+    module _ (sizes : Order.sizesInRange shop order ≡ true) where
+      pub order-length-no : length order ≢ Order.sizeWords + 2 * Order.rowCount order
+          → firstNo (Order.orderQuestions shop order) ≡ refused ((13 asks false) .refusal)
       unfolding Order.orderQuestions firstNo
-      order-length-no e = rw (le-leb 3 (length order) long, order-sizes-same ∙ sizes, ne-eqb (length order) (3 + 2 * getD order 2 0) e)
+      order-length-no e = rw (le-leb Order.sizeWords (length order) long, sizes, ne-eqb (length order) (Order.sizeWords + 2 * Order.rowCount order) e)
 
-      pub order-rest : length order ≡ 3 + 2 * getD order 2 0
+      pub order-rest : length order ≡ Order.sizeWords + 2 * Order.rowCount order
           → firstNo (Order.orderQuestions shop order)
           ≡ firstNo (questionsOf Of.Order (Order.atomCount order) (Order.orderRows order) ++ Order.orderEndQuestions order)
       unfolding Order.orderQuestions firstNo
-      order-rest e = rw (le-leb 3 (length order) long, order-sizes-same ∙ sizes, eq-eqb (length order) (3 + 2 * getD order 2 0) e)
+      order-rest e = rw (le-leb Order.sizeWords (length order) long, sizes, eq-eqb (length order) (Order.sizeWords + 2 * Order.rowCount order) e)
+
+  pub order-rows-few : Order.sizesInRange shop order ≡ true → Order.rowCount order ≤ mostRows
+  unfolding Order.sizesInRange
+  order-rows-few e = let s = simp and-eq-true-iff at e in omega (arith, leb-true)
 
 -- What is asked of an order sheet after its rows, question by question.
 module _ (order : List ℕ) (s : Scan) (sc : Scanned Of.Order (Order.atomCount order) (Order.orderRows order) s) (z : s .refusal .number ≡ 0) where
@@ -216,29 +214,26 @@ module _ (order : List ℕ) (s : Scan) (sc : Scanned Of.Order (Order.atomCount o
     order-end-passed e = order-follow ∙ rw (order-position ∙ ends, goals-same, eq-eqb (s .position .nodes) (Order.goalCount order) e)
 
 module _ (trace : List ℕ) where
-  pub trace-short : length trace < 1 → firstNo (Trace.traceQuestions trace) ≡ refused ((21 asks false) .refusal)
+  -- The length that question 23 asks for.
+  abbrev whole : ℕ
+  whole = Trace.sizeWords + 2 * Trace.stepCount trace
+
+  pub trace-short : length trace < Trace.sizeWords → firstNo (Trace.traceQuestions trace) ≡ refused ((21 asks false) .refusal)
   unfolding Trace.traceQuestions firstNo
-  trace-short h = rw (lt-leb 1 (length trace) h)
+  trace-short h = rw (lt-leb Trace.sizeWords (length trace) h)
 
-  module _ (long : 1 ≤ length trace) where
-    pub trace-steps-no : 4096 < getD trace 0 0 → firstNo (Trace.traceQuestions trace) ≡ refused ((22 asks false) .refusal)
+  module _ (long : Trace.sizeWords ≤ length trace) where
+    pub trace-steps-no : Trace.mostSteps < Trace.stepCount trace → firstNo (Trace.traceQuestions trace) ≡ refused ((22 asks false) .refusal)
     unfolding Trace.traceQuestions firstNo
-    trace-steps-no h = rw (le-leb 1 (length trace) long, lt-leb (getD trace 0 0) 4096 h)
+    trace-steps-no h = rw (le-leb Trace.sizeWords (length trace) long, lt-leb (Trace.stepCount trace) Trace.mostSteps h)
 
-    module _ (few : getD trace 0 0 ≤ 4096) where
-      pub trace-length-no : length trace ≢ 1 + 2 * getD trace 0 0 → firstNo (Trace.traceQuestions trace) ≡ refused ((23 asks false) .refusal)
+    module _ (few : Trace.stepCount trace ≤ Trace.mostSteps) where
+      pub trace-length-no : length trace ≢ whole → firstNo (Trace.traceQuestions trace) ≡ refused ((23 asks false) .refusal)
       unfolding Trace.traceQuestions firstNo
-      trace-length-no e = rw (le-leb 1 (length trace) long, le-leb (getD trace 0 0) 4096 few, ne-eqb (length trace) (1 + 2 * getD trace 0 0) e)
+      trace-length-no e =
+          rw (le-leb Trace.sizeWords (length trace) long, le-leb (Trace.stepCount trace) Trace.mostSteps few, ne-eqb (length trace) whole e)
 
-      pub trace-passed : length trace ≡ 1 + 2 * getD trace 0 0 → firstNo (Trace.traceQuestions trace) ≡ passed
+      pub trace-passed : length trace ≡ whole → firstNo (Trace.traceQuestions trace) ≡ passed
       unfolding Trace.traceQuestions firstNo
-      trace-passed e = rw (le-leb 1 (length trace) long, le-leb (getD trace 0 0) 4096 few, eq-eqb (length trace) (1 + 2 * getD trace 0 0) e)
-
--- Sizes in range leave at most 4,000 rows.
-pub shop-sizes-rows : (a k m n : ℕ) → shopSizes a k m n ≡ true → n ≤ 4000
-unfolding shopSizes
-shop-sizes-rows a k m n e = let s = simp and-eq-true-iff at e in omega (arith, leb-true)
-
-pub order-sizes-rows : (f a g n : ℕ) → orderSizes f a g n ≡ true → n ≤ 4000
-unfolding orderSizes
-order-sizes-rows f a g n e = let s = simp and-eq-true-iff at e in omega (arith, leb-true)
+      trace-passed e =
+          rw (le-leb Trace.sizeWords (length trace) long, le-leb (Trace.stepCount trace) Trace.mostSteps few, eq-eqb (length trace) whole e)
