@@ -73,7 +73,7 @@ nodes-advance p t v = go (eqb t Tag.method) (eqb t Tag.node)
     go false true = omega arith
     go false false = omega arith
 
-first≢0 : (sheet : Sheet) → 1 ≤ firstQuestionOf sheet
+pub first≢0 : (sheet : Sheet) → 1 ≤ firstQuestionOf sheet
 first≢0 Shop = omega arith
 first≢0 Order = omega arith
 

@@ -10,7 +10,7 @@ use lib.Dec.{eqb}
 use lib.ListN.{length, length-map}
 use borrow.Author.Tests.{eq-eqb, ne-eqb, eqb-true, le-leb, lt-leb, leb-true}
 use Rattle.hgn.specs.Lists.{among, any, parts, upTo}
-use Rattle.hgn.specs.Questions.{_asks_, _askedAt_, Verdict, passed, refused, firstNo}
+use Rattle.hgn.specs.Questions.{Question, _asks_, _askedAt_, Verdict, passed, refused, firstNo}
 use Rattle.hgn.specs.Rows.{Row, mostRows, has, rowQuestions, positionAfter}
 use Rattle.hgn.specs.Tag as Tag
 use Rattle.hgn.specs.Meaning.{nodesOf, nodeOf, orderOf}
@@ -19,7 +19,7 @@ use Rattle.hgn.specs.Order as Order
 use Rattle.hgn.specs.Trace as Trace
 use Rattle.hgn.proofs.Firsts.{passed-cons, Numbers, told-passed, told-on}
 use Rattle.hgn.proofs.Numbers.{rows-numbers}
-use Rattle.reading.specs.Reading.{positionOf}
+use Rattle.reading.specs.Reading.{followOf, firstQuestionOf, positionOf}
 use Rattle.reading.specs.Refusals.{refusalOf}
 use Rattle.scan.specs.Tally.{foundIn, closed}
 use Rattle.scan.specs.Scanned.{Scanned, questionsOf}
@@ -28,13 +28,21 @@ use Rattle.reading.specs.declared.position.Sheet.the-variants as Of
 use Rattle.scan.specs.declared.rows.Scan.{Scan}
 use Rattle.scan.specs.declared.tally.Tally.{Tally}
 use Rattle.scan.proofs.Counts.{actions-counted, methods-counted, rules-counted}
+use Rattle.scan.proofs.Scans.{first≢0}
 
 -- No question of a row has the number 0.
-pub rows-numbered : (sheet : Sheet) (F : ℕ) (rows : List Row) → Numbers (λ k. k ≢ 0) (questionsOf sheet F rows)
-rows-numbered Of.Shop F rows =
-    rows-numbers (λ k. k ≢ 0) (λ k l. omega arith) Tag.shopFollow 4 F 0 Tag.opening rows (omega arith) (omega arith) (omega arith)
-rows-numbered Of.Order F rows =
-    rows-numbers (λ k. k ≢ 0) (λ k l. omega arith) Tag.orderFollow 14 F 0 Tag.opening rows (omega arith) (omega arith) (omega arith)
+rows-numbered : (sheet : Sheet) (F : ℕ) (rows : List Row) → Numbers (λ k. k ≢ 0) (questionsOf sheet F rows)
+rows-numbered sheet F rows =
+    let first = first≢0 sheet in
+    rows-numbers (λ k. k ≢ 0) (λ k l. omega arith) (followOf sheet) (firstQuestionOf sheet) F 0 Tag.opening rows (omega arith) (omega arith) (omega arith)
+
+-- Where the rows passed, the first no is that of what is asked after them, and the scan knows whether the sheet may end.
+module _ (sheet : Sheet) (F : ℕ) (rows : List Row) {s : Scan} (sc : Scanned sheet F rows s) (z : s .refusal .number ≡ 0) where
+  ends-follow : (ends : List Question) → firstNo (questionsOf sheet F rows ++ ends) ≡ firstNo ends
+  ends-follow ends = told-on (questionsOf sheet F rows) ends (refusalOf (s .refusal)) (sc .refusal) (rows-numbered sheet F rows) z
+
+  position-same : Tag.mayEnd (positionAfter Tag.opening rows .context) ≡ Tag.mayEnd (positionOf (s .position) .context)
+  position-same = ap (λ (p : Tag.Position). Tag.mayEnd (p .context)) (sym (sc .position z))
 
 module _ (shop : List ℕ) where
   pub shop-short : length shop < Shop.sizeWords → Shop.checkShop shop ≡ refused ((1 asks false) .refusal)
@@ -67,10 +75,10 @@ module _ (shop : List ℕ) (s : Scan) (sc : Scanned Of.Shop (Shop.atomCount shop
   shopEnd = firstNo (questionsOf Of.Shop (Shop.atomCount shop) (Shop.shopRows shop) ++ Shop.shopEndQuestions shop)
 
   shop-follow : shopEnd ≡ firstNo (Shop.shopEndQuestions shop)
-  shop-follow = told-on _ _ (refusalOf (s .refusal)) (sc .refusal) (rows-numbered Of.Shop (Shop.atomCount shop) (Shop.shopRows shop)) z
+  shop-follow = ends-follow Of.Shop _ _ sc z _
 
-  position-same : Tag.mayEnd (positionAfter Tag.opening (Shop.shopRows shop) .context) ≡ Tag.mayEnd (positionOf (s .position) .context)
-  position-same = ap (λ (p : Tag.Position). Tag.mayEnd (p .context)) (sym (sc .position z))
+  shop-position : Tag.mayEnd (positionAfter Tag.opening (Shop.shopRows shop) .context) ≡ Tag.mayEnd (positionOf (s .position) .context)
+  shop-position = position-same Of.Shop _ _ sc z
 
   actions-same : length (Shop.domain shop .actions) ≡ s .tally .actions
   unfolding Shop.domain
@@ -82,12 +90,12 @@ module _ (shop : List ℕ) (s : Scan) (sc : Scanned Of.Shop (Shop.atomCount shop
 
   pub shop-end-7 : Tag.mayEnd (positionOf (s .position) .context) ≡ false → shopEnd ≡ refused ((7 asks false) .refusal)
   unfolding Shop.shopEndQuestions firstNo
-  shop-end-7 e = shop-follow ∙ rw (position-same ∙ e)
+  shop-end-7 e = shop-follow ∙ rw (shop-position ∙ e)
 
   module _ (ends : Tag.mayEnd (positionOf (s .position) .context) ≡ true) where
     pub shop-end-actions : s .tally .actions ≢ Shop.actionCount shop → shopEnd ≡ refused ((8 asks false) .refusal)
     unfolding Shop.shopEndQuestions firstNo
-    shop-end-actions e = shop-follow ∙ rw (position-same ∙ ends, actions-same, ne-eqb (s .tally .actions) (Shop.actionCount shop) e)
+    shop-end-actions e = shop-follow ∙ rw (shop-position ∙ ends, actions-same, ne-eqb (s .tally .actions) (Shop.actionCount shop) e)
 
     module _ (few : s .tally .actions ≡ Shop.actionCount shop) where
       pub shop-end-methods : s .tally .methods ≢ Shop.methodCount shop → shopEnd ≡ refused ((8 asks false) .refusal)
@@ -95,7 +103,7 @@ module _ (shop : List ℕ) (s : Scan) (sc : Scanned Of.Shop (Shop.atomCount shop
       shop-end-methods e =
           shop-follow
           ∙ rw (
-            position-same ∙ ends,
+            shop-position ∙ ends,
             actions-same,
             eq-eqb (s .tally .actions) (Shop.actionCount shop) few,
             methods-same,
@@ -107,7 +115,7 @@ module _ (shop : List ℕ) (s : Scan) (sc : Scanned Of.Shop (Shop.atomCount shop
       shop-end-rules e c =
           shop-follow
           ∙ rw (
-            position-same ∙ ends,
+            shop-position ∙ ends,
             actions-same,
             eq-eqb (s .tally .actions) (Shop.actionCount shop) few,
             methods-same,
@@ -137,7 +145,7 @@ order-tag c t e = go (eqb t Tag.method) refl c e
     go true q Tag.inNode e = sym (rw (eqb-true t Tag.method q) at e)
     go true q Tag.inAlternative e = sym (rw (eqb-true t Tag.method q) at e)
 
-nodes-passed : (F i : ℕ) (p : Tag.Position) (rows : List Row) → firstNo (rowQuestions Tag.orderFollow 14 F i p rows) ≡ passed
+nodes-passed : (F i : ℕ) (p : Tag.Position) (rows : List Row) → firstNo (rowQuestions Tag.orderFollow (firstQuestionOf Of.Order) F i p rows) ≡ passed
     → positionAfter p rows .nodes ≡ p .nodes + length (parts (has Tag.node) rows)
 unfolding rowQuestions positionAfter parts Tag.advance
 nodes-passed F i p [] e = sym (add-zero (p .nodes))
@@ -187,10 +195,10 @@ module _ (order : List ℕ) (s : Scan) (sc : Scanned Of.Order (Order.atomCount o
   orderEnd = firstNo (questionsOf Of.Order (Order.atomCount order) (Order.orderRows order) ++ Order.orderEndQuestions order)
 
   order-follow : orderEnd ≡ firstNo (Order.orderEndQuestions order)
-  order-follow = told-on _ _ (refusalOf (s .refusal)) (sc .refusal) (rows-numbered Of.Order (Order.atomCount order) (Order.orderRows order)) z
+  order-follow = ends-follow Of.Order _ _ sc z _
 
   order-position : Tag.mayEnd (positionAfter Tag.opening (Order.orderRows order) .context) ≡ Tag.mayEnd (positionOf (s .position) .context)
-  order-position = ap (λ (p : Tag.Position). Tag.mayEnd (p .context)) (sym (sc .position z))
+  order-position = position-same Of.Order _ _ sc z
 
   goals-same : length (Order.order order .goals) ≡ s .position .nodes
   unfolding Order.order orderOf nodesOf

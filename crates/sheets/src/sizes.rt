@@ -42,15 +42,11 @@ impl ShopSizes {
     pub fn of(shop: &[u16]) -> ShopSizes
         ensures { λ r. ⌜ ShopSized (now (shop .entry)) r ⌝ }
     {
-        let atoms = word(shop, ShopSizes::ATOMS);
-        let actions = word(shop, ShopSizes::ACTIONS);
-        let methods = word(shop, ShopSizes::METHODS);
-        let rows = word(shop, ShopSizes::ROWS);
         ShopSizes {
-            atoms: atoms,
-            actions: actions,
-            methods: methods,
-            rows: rows,
+            atoms: word(shop, ShopSizes::ATOMS),
+            actions: word(shop, ShopSizes::ACTIONS),
+            methods: word(shop, ShopSizes::METHODS),
+            rows: word(shop, ShopSizes::ROWS),
         }
     }
 
@@ -77,13 +73,10 @@ impl OrderSizes {
     pub fn of(order: &[u16]) -> OrderSizes
         ensures { λ r. ⌜ OrderSized (now (order .entry)) r ⌝ }
     {
-        let atoms = word(order, OrderSizes::ATOMS);
-        let goals = word(order, OrderSizes::GOALS);
-        let rows = word(order, OrderSizes::ROWS);
         OrderSizes {
-            atoms: atoms,
-            goals: goals,
-            rows: rows,
+            atoms: word(order, OrderSizes::ATOMS),
+            goals: word(order, OrderSizes::GOALS),
+            rows: word(order, OrderSizes::ROWS),
         }
     }
 

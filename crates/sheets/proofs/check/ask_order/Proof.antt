@@ -9,18 +9,6 @@ use Rattle.sheets.proofs.Checks.{order-short, order-sizes-no, order-len
 use Rattle.sheets.proofs.check.ask_order.Statement.{statement}
 use Rattle.sheets.proofs.check.ask_order.Tie as tie
 
-mul-if3 : tie.Need-mul-if3
-mul-if3 c =
-    let r = c .before .before in
-    let o = r .before .before in
-    omega (arith, order-rows-few _ _ (Laws.told (r .before .order-in-range .ensures _ _ (o .of2 .ensures) (o .before .of .ensures)) (r .if2 .taken)))
-
-add-if3 : tie.Need-add-if3
-add-if3 c =
-    let r = c .before .before .before in
-    let o = r .before .before in
-    omega (arith, order-rows-few _ _ (Laws.told (r .before .order-in-range .ensures _ _ (o .of2 .ensures) (o .before .of .ensures)) (r .if2 .taken)))
-
 scan-requires : tie.Need-scan-requires
 scan-requires c κs =
     let r = c .before .before .before .before in
@@ -62,8 +50,8 @@ ask-order-spec =
     (λ c κs. search needs)
     (λ c κs. search needs)
     (λ c κs. search needs)
-    mul-if3
-    add-if3
+    (λ c. search needs)
+    (λ c. search needs)
     scan-requires
     (λ c κs. search needs)
     returns-2

@@ -9,16 +9,6 @@ use Rattle.sheets.proofs.Checks.{shop-short, shop-sizes-no, shop-length
 use Rattle.sheets.proofs.check.check_shop.Statement.{statement}
 use Rattle.sheets.proofs.check.check_shop.Tie as tie
 
-mul-if3 : tie.Need-mul-if3
-mul-if3 c =
-    let r = c .before .before in
-    omega (arith, shop-rows-few _ (Laws.told (r .before .shop-in-range .ensures _ (r .before .before .of .ensures)) (r .if2 .taken)))
-
-add-if3 : tie.Need-add-if3
-add-if3 c =
-    let r = c .before .before .before in
-    omega (arith, shop-rows-few _ (Laws.told (r .before .shop-in-range .ensures _ (r .before .before .of .ensures)) (r .if2 .taken)))
-
 scan-requires : tie.Need-scan-requires
 scan-requires c κs =
     let r = c .before .before .before .before in
@@ -56,8 +46,8 @@ check-shop-spec =
     (λ c κs. search needs)
     (λ c κs. search needs)
     (λ c κs. search needs)
-    mul-if3
-    add-if3
+    (λ c. search needs)
+    (λ c. search needs)
     scan-requires
     (λ c κs. search needs)
     returns-2
