@@ -6,7 +6,7 @@ use sheets::check::Trace;
 ghost use Prim.Native.Nat.{_<_};
 ghost use lib.ListN.{length};
 
-// The words of a room where a case does not say: a plan of every trace fits.
+// The words of a room where a case does not say: the plan of every trace fits.
 const USUAL: u16 = Trace::MOST_STEPS;
 
 // The words of the longest room: its length is a word.

@@ -22,7 +22,7 @@ unfoldable pub digitCount : ℕ → ℕ → ℕ
 digitCount zero n = 0
 digitCount (suc k) n = cond (ltb n 10) 1 (suc (digitCount k (n / 10)))
 
--- A number of at most so many digits, in ASCII.
+-- A number of no more digits than these, in ASCII.
 unfoldable pub decimal : ℕ → List ℕ
 decimal n = digits 10 (digitCount mostDigits n) n
 
@@ -30,7 +30,7 @@ decimal n = digits 10 (digitCount mostDigits n) n
 unfoldable pub ended : ℕ → ℕ → List ℕ
 ended end n = decimal n ++ (end ∷ [])
 
--- In ASCII too.
+-- The bytes that end a number, in ASCII too.
 abbrev pub blank : ℕ
 blank = 32
 
@@ -46,7 +46,8 @@ unfoldable pub lines : List ℕ → List ℕ
 lines [] = []
 lines (k ∷ plan) = ended newline k ++ lines plan
 
--- The most bytes of a number with the byte that ends it, of the heading, and of the whole text.
+-- The most bytes of a number with the byte that ends it, of the heading with its four numbers, and of the whole text: a plan has no more
+-- actions than a trace has steps.
 abbrev pub numberBytes : ℕ
 numberBytes = mostDigits + 1
 

@@ -11,16 +11,16 @@ ghost use Rattle.program.specs.Texts.{ended, heading, lines, numberBytes
 pub struct Text;
 
 impl Text {
-    // Enough for every 64-bit number.
+    // So many digits hold every 64-bit number.
     const MOST_DIGITS: usize = 20;
 
-    // The digits, and the byte that ends a number.
+    // A number takes its digits and a byte that ends it.
     const NUMBER_BYTES: usize = Text::MOST_DIGITS + 1;
 
-    // Number, place, count and cost.
+    // The heading has four numbers: number, place, plan count and cost.
     const HEADING_BYTES: usize = Text::NUMBER_BYTES * 4;
 
-    // The heading, then the plan.
+    // Behind the heading stands the plan, which has no more actions than a trace has steps.
     pub const MOST_BYTES: usize = Text::HEADING_BYTES
         + Text::NUMBER_BYTES * (Trace::MOST_STEPS as usize);
 }

@@ -17,7 +17,7 @@ use Rattle.sheets.specs.declared.sizes.ShopSizes.{ShopSizes}
 use Rattle.sheets.specs.declared.sizes.OrderSizes.{OrderSizes}
 use Rattle.sheets.specs.Sizes.{ShopSized, OrderSized}
 
--- The answer is whether the sizes are in range, of any sheet that has these.
+-- The answer says whether the sizes of a sheet are in range, of every sheet that has these sizes.
 abbrev pub ShopInRange : ShopSizes → Bool → Type 0
 ShopInRange sizes r = (shop : List ℕ) → ShopSized shop sizes → r ≡ Shop.sizesInRange shop
 

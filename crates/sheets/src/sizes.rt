@@ -1,4 +1,4 @@
-// The sizes that a sheet begins with, by name. Document 01, "The three sheets".
+// The sizes that a sheet begins with, by name, so that only this file knows in which word each stands. Document 01, "The three sheets".
 use crate::check::Order;
 use crate::check::Shop;
 use scan::rows::Layout;
@@ -8,7 +8,7 @@ ghost use Rattle.hgn.specs.Shop as ShopSheet;
 ghost use Rattle.hgn.specs.Order as OrderSheet;
 ghost use Rattle.sheets.specs.Sizes.{ShopSized, OrderSized, TraceSized};
 
-// F, K, M and N.
+// A shop sheet begins with F, K, M and N.
 pub struct ShopSizes {
     pub atoms: u16,
     pub actions: u16,
@@ -16,20 +16,20 @@ pub struct ShopSizes {
     pub rows: u16,
 }
 
-// F, G and N.
+// An order sheet begins with F, G and N.
 pub struct OrderSizes {
     pub atoms: u16,
     pub goals: u16,
     pub rows: u16,
 }
 
-// L.
+// A trace begins with L.
 pub struct TraceSizes {
     pub steps: u16,
 }
 
 impl ShopSizes {
-    // The words that they stand in.
+    // The word in which each stands.
     const ATOMS: usize = 0;
 
     const ACTIONS: usize = 1;
@@ -38,7 +38,7 @@ impl ShopSizes {
 
     const ROWS: usize = 3;
 
-    // Those of a sheet; 0 past its end.
+    // Reads them from a sheet. One that a sheet is too short to have is 0.
     pub fn of(shop: &[u16]) -> ShopSizes
         ensures { λ r. ⌜ ShopSized (now (shop .entry)) r ⌝ }
     {
@@ -50,7 +50,7 @@ impl ShopSizes {
         }
     }
 
-    // Where the rows stand.
+    // Where the rows of such a sheet stand.
     pub fn layout(self) -> Layout
         ensures { λ r. ⌜ (r .sizes ≡ ShopSheet.sizeWords) × (r .rows ≡ self .rows) ⌝ }
     {
@@ -62,14 +62,14 @@ impl ShopSizes {
 }
 
 impl OrderSizes {
-    // The words that they stand in.
+    // The word in which each stands.
     const ATOMS: usize = 0;
 
     const GOALS: usize = 1;
 
     const ROWS: usize = 2;
 
-    // Those of a sheet; 0 past its end.
+    // Reads them from a sheet. One that a sheet is too short to have is 0.
     pub fn of(order: &[u16]) -> OrderSizes
         ensures { λ r. ⌜ OrderSized (now (order .entry)) r ⌝ }
     {
@@ -80,7 +80,7 @@ impl OrderSizes {
         }
     }
 
-    // Where the rows stand.
+    // Where the rows of such a sheet stand.
     pub fn layout(self) -> Layout
         ensures { λ r. ⌜ (r .sizes ≡ OrderSheet.sizeWords) × (r .rows ≡ self .rows) ⌝ }
     {
@@ -92,10 +92,10 @@ impl OrderSizes {
 }
 
 impl TraceSizes {
-    // The word that it stands in.
+    // The word in which it stands.
     const STEPS: usize = 0;
 
-    // That of a trace; 0 where it has no word.
+    // Reads it from a trace. Of a trace that has no word it is 0.
     pub fn of(trace: &[u16]) -> TraceSizes
         ensures { λ r. ⌜ TraceSized (now (trace .entry)) r ⌝ }
     {
