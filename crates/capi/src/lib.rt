@@ -1,9 +1,9 @@
 // The five public calls for a caller of C: plain names, and each answer written where the caller lends room for it. Document 01,
 // "Questions". `include/liropuva.h` declares them.
-use formulas::state::State;
 use replay::call::replay;
 use search::call::search;
 use sheets::check;
+use sheets::check::Shop;
 ghost use mathlib.Core.Path.{_≡_};
 ghost use Rattle.hgn.specs.Shop.{checkShop};
 ghost use Rattle.hgn.specs.Order.{checkOrder};
@@ -14,12 +14,12 @@ ghost use Rattle.hgn.specs.Questions.{told};
 ghost use Rattle.capi.specs.Words.{refusalWords, stateBytes, ReplayLeft, SearchLeft};
 
 // A state's atoms as bytes: 1 for an atom that is in, 0 for one that is not.
-fn bytes_of(atoms: [bool; 256]) -> [u8; 256]
+fn bytes_of(atoms: [bool; Shop::MOST_ATOMS as usize]) -> [u8; Shop::MOST_ATOMS as usize]
     ensures { λ r. ⌜ r ≡ stateBytes atoms ⌝ }
 {
-    let mut bytes = [0u8; State::MOST];
+    let mut bytes = [0u8; Shop::MOST_ATOMS as usize];
     let mut i = 0;
-    while i < State::MOST {
+    while i < Shop::MOST_ATOMS as usize {
         bytes[i] = atoms[i] as u8;
         i += 1;
     }
@@ -61,7 +61,7 @@ pub extern "C" fn hgn_replay<'a>(
     trace: &[u16],
     plan: &mut [u16],
     answer: &mut [u32; 4],
-    atoms: &mut [u8; 256],
+    atoms: &mut [u8; Shop::MOST_ATOMS as usize],
 )
     ensures { λ _. ⌜ ReplayLeft (Replay.replay (now (shop .entry)) (now (order .entry)) (now (trace .entry)) (now (plan .entry))) (now (plan .exit)) (now (answer .exit)) (now (atoms .exit)) ⌝ }
 {

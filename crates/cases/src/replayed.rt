@@ -3,53 +3,49 @@
 use crate::line;
 use crate::room;
 use crate::sheet;
+use reading::position::Atom;
 use replay::answer::Answer;
 use replay::call::replay;
-ghost use Prim.Native.Nat.{_<_};
+use sheets::check::Shop;
+ghost use Prim.Native.Nat.{_≤_};
 ghost use lib.ListN.{length};
+ghost use Rattle.hgn.specs.State.{mostAtoms};
 
-// Where the atoms that are true or false, as the one at `from`, end.
-fn end_of_atoms(atoms: &[bool], from: usize) -> usize
-    ensures { λ r. ⌜ (from < length (now (atoms .entry)) → from < r) ⌝ }
+// The first atom from this one on that is not in the state, or their number where there is none.
+fn next_out(atoms: &[bool], from: Atom) -> Atom
+    requires { ⌜ (from .0 ≤ length (now atoms)) × (length (now atoms) ≤ mostAtoms) ⌝ }
+    ensures { λ r. ⌜ (from .0 ≤ r .0) × (r .0 ≤ length (now (atoms .entry))) ⌝ }
 {
-    let mut at = from;
+    let mut at = from.0 as usize;
     while at < atoms.len() {
-        at += 1;
-        if at < atoms.len() {
-            if atoms[at] != atoms[from] {
-                return at;
-            }
+        if !atoms[at] {
+            return Atom(at as u16);
         }
+        at += 1;
     }
-    at
+    Atom(at as u16)
 }
 
-// Neighbouring atoms from the first to before the end.
-fn write_atoms(first: usize, end: usize) {
-    line::number(first as u64);
-    if first < end {
-        write_last(first, end - 1);
-    }
-}
-
-fn write_last(first: usize, last: usize) {
-    if first < last {
+// Neighbouring atoms, from the first to the last.
+fn write_atoms(first: Atom, last: Atom) {
+    line::number(first.0 as u64);
+    if first.0 < last.0 {
         line::text(b" to");
-        line::number(last as u64);
+        line::number(last.0 as u64);
     }
 }
 
-fn write_state(atoms: &[bool]) {
+fn write_state(atoms: [bool; Shop::MOST_ATOMS as usize]) {
     line::text(b"; state");
     let mut is_empty = true;
-    let mut at = 0;
-    while at < atoms.len() {
-        let end = end_of_atoms(atoms, at);
-        if atoms[at] {
-            write_atoms(at, end);
+    let mut at: u16 = 0;
+    while at < Shop::MOST_ATOMS {
+        let out = next_out(&atoms, Atom(at));
+        if at < out.0 {
+            write_atoms(Atom(at), Atom(out.0 - 1));
             is_empty = false;
         }
-        at = end;
+        at = out.0 + 1;
     }
     room::write_none(is_empty);
 }
@@ -61,7 +57,7 @@ fn write_answer(answer: Answer, room: &[u16]) {
     line::number(answer.cost as u64);
     let state = answer.state;
     let atoms = state.atoms;
-    write_state(&atoms);
+    write_state(atoms);
     let count = answer.count as usize;
     line::text(b"; plan");
     room::write_list(sheet::front(room, count));

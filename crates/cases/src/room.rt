@@ -2,14 +2,15 @@
 use crate::line;
 use crate::sheet;
 use scan::rows::word;
+use sheets::check::Trace;
 ghost use Prim.Native.Nat.{_<_};
 ghost use lib.ListN.{length};
 
-// The words of a room where a case does not say.
-const USUAL: u16 = 4096;
+// The words of a room where a case does not say: the plan of every trace fits.
+const USUAL: u16 = Trace::MOST_STEPS;
 
-// The words of the longest room.
-pub const MOST: usize = 65535;
+// The words of the longest room: its length is a word.
+pub const MOST: usize = u16::MAX as usize;
 
 // The room's length that a case says, or the usual one.
 pub fn length_of(text: &[u8]) -> usize {

@@ -5,6 +5,8 @@ use crate::room;
 use reading::refusal::Refusal;
 use scan::rows::word;
 use search::call::search;
+use sheets::check::Trace;
+use sheets::sizes::TraceSizes;
 
 // So many words of a room, or none where it has fewer.
 fn part(room: &[u16], from: usize, length: usize) -> &[u16] {
@@ -20,12 +22,13 @@ fn part(room: &[u16], from: usize, length: usize) -> &[u16] {
 fn write_trace(room: &[u16], length: u16) {
     let count = length as usize;
     line::text(b"; length");
-    line::number(word(room, 0) as u64);
+    let sizes = TraceSizes::of(room);
+    line::number(sizes.steps as u64);
     line::text(b"; moves");
-    room::write_list(part(room, 1, count));
+    room::write_list(part(room, Trace::SIZES, count));
     line::text(b"; places");
-    room::write_list(part(room, 1 + count, count));
-    room::write_rest(room, 1 + 2 * count);
+    room::write_list(part(room, Trace::SIZES + count, count));
+    room::write_rest(room, Trace::SIZES + 2 * count);
 }
 
 fn write_answer(answer: Refusal, room: &[u16]) {

@@ -12,8 +12,8 @@ pub const ORDER: u16 = Order::SIZES as u16;
 
 pub const TRACE: u16 = Trace::SIZES as u16;
 
-// The words of a room: those of the longest sheet whose sizes can count its rows, 4 + 2 * 65535, and a few more.
-pub const ROOM: usize = 131080;
+// The words of a room: those of the longest sheet whose sizes can count its rows, and one more, so that a longer one is not cut to it.
+pub const ROOM: usize = Shop::SIZES + 2 * (u16::MAX as usize) + 1;
 
 // More bytes than are read of any text, with what is repeated.
 const MOST_BYTES: u32 = 10000000;

@@ -5,14 +5,19 @@ use display::forward;
 use network::waiting::Place;
 use replay::first;
 use scan::rows::word;
+use sheets::check::Trace;
 use sheets::check::check_order;
+use sheets::sizes::TraceSizes;
 use spans::index::Tables;
 use steps::problem::Problem;
 use steps::problem::Stepped;
 ghost use mathlib.Core.Path.{_≡_};
-ghost use Prim.Native.Nat.{suc, _+_, _≤_, _<_};
+ghost use Prim.Native.Nat.{suc, _+_, _≤_};
 ghost use lib.ListN.{length};
+ghost use mir.Syntax.{w16};
+ghost use mir.Val.{Fits};
 ghost use Rattle.hgn.specs.Rows.{mostRows};
+ghost use Rattle.hgn.specs.Network.{mostWaiting};
 ghost use Rattle.hgn.specs.Shop.{mostActions, mostMethods};
 ghost use Rattle.hgn.specs.Order.{checkOrder};
 ghost use Rattle.hgn.specs.Questions.{passed};
@@ -28,7 +33,7 @@ fn write_shown(shown: Stepped) {
 
 // Only a step that is taken is counted.
 fn next_number(number: u16, answer: u16) -> u16
-    requires { ⌜ number < 65535 ⌝ }
+    requires { ⌜ Fits w16 (number + 1) ⌝ }
     ensures { λ r. ⌜ r ≤ number + 1 ⌝ }
 {
     if answer == 0 {
@@ -51,15 +56,16 @@ fn write_steps<'a>(
     first: Problem,
 )
     requires { ⌜ Indexed (now shop) (now order) (now tables) ⌝ }
-    requires { ⌜ first .waiting .count ≤ 64 ⌝ }
+    requires { ⌜ first .waiting .count ≤ mostWaiting ⌝ }
 {
-    let steps = word(trace, 0) as usize;
+    let sizes = TraceSizes::of(trace);
+    let steps = sizes.steps as usize;
     let mut problem = first;
     let mut number: u16 = 0;
     let mut at: usize = 0;
     while at < steps {
-        let mv = word(trace, 1 + at);
-        let place = word(trace, 1 + steps + at);
+        let mv = word(trace, Trace::SIZES + at);
+        let place = word(trace, Trace::SIZES + steps + at);
         write_comma(at);
         at += 1;
         let shown = forward::show_step(

@@ -4,9 +4,9 @@ use native.Mathlib.Omega.{arith}
 use native.Mathlib.Numerals.{add-one}
 use mathlib.Core.Path.{_≡_, refl, sym, ap, ap₂, _∙_}
 use mathlib.Core.List.{List, [], _∷_, _++_, append-assoc}
-use lib.ListN.{length, getD, set, take, drop, length-append, length-take, length-drop}
+use lib.ListN.{length, getD, set, take, drop, replicate, length-append, length-take, length-drop, length-replicate}
 use lib.Seq.{drop-cons, set-at, take-suc, take-at, length-take-le}
-use Rattle.program.specs.Words.{wordsOf, wordsInto, over}
+use Rattle.program.specs.Words.{wordOf, wordsOf, wordsInto, over}
 
 pub length-words : (bytes : List ℕ) → length (wordsOf bytes) ≡ length bytes / 2
 unfolding wordsOf
@@ -14,7 +14,7 @@ length-words [] = refl
 length-words (low ∷ []) = refl
 length-words (low ∷ high ∷ rest) = omega (arith, length-words rest)
 
-pub word-at : (bytes : List ℕ) (i : ℕ) → i < length bytes / 2 → getD (wordsOf bytes) i 0 ≡ getD bytes (2 * i) 0 + 256 * getD bytes (2 * i + 1) 0
+pub word-at : (bytes : List ℕ) (i : ℕ) → i < length bytes / 2 → getD (wordsOf bytes) i 0 ≡ wordOf (getD bytes (2 * i) 0) (getD bytes (2 * i + 1) 0)
 unfolding wordsOf
 word-at [] i h = refl
 word-at (low ∷ []) i h = absurd (omega arith)
@@ -23,7 +23,7 @@ word-at (low ∷ high ∷ rest) (suc i) h =
     let even : suc (suc (2 * i)) ≡ 2 * suc i = omega arith in
     let odd : suc (suc (2 * i + 1)) ≡ 2 * suc i + 1 = omega arith in
     word-at rest i (omega arith)
-    ∙ ap₂ {C = ℕ} (λ (a b : ℕ). getD (low ∷ high ∷ rest) a 0 + 256 * getD (low ∷ high ∷ rest) b 0) even odd
+    ∙ ap₂ {C = ℕ} (λ (a b : ℕ). wordOf (getD (low ∷ high ∷ rest) a 0) (getD (low ∷ high ∷ rest) b 0)) even odd
 
 front-of-front : (n : ℕ) (l : List ℕ) → take (length (take n l)) l ≡ take n l
 front-of-front zero l = refl
@@ -37,20 +37,22 @@ cut (suc n) bytes =
     let e : suc (suc (n + n)) ≡ suc n + suc n = omega arith in
     go bytes (cut n) ∙ ap {B = List ℕ} (λ (k : ℕ). wordsOf (take k bytes)) e
   where
-    go : (bytes : List ℕ) → ((rest : List ℕ) → take n (wordsOf rest) ≡ wordsOf (take (n + n) rest)) → take (suc n) (wordsOf bytes) ≡ wordsOf (take (suc (suc (n + n))) bytes)
+    go : (bytes : List ℕ) → ((rest : List ℕ) → take n (wordsOf rest) ≡ wordsOf (take (n + n) rest))
+        → take (suc n) (wordsOf bytes) ≡ wordsOf (take (suc (suc (n + n))) bytes)
     go [] h = refl
     go (low ∷ []) h = refl
-    go (low ∷ high ∷ rest) h = ap {B = List ℕ} (λ l. (low + 256 * high) ∷ l) (h rest)
+    go (low ∷ high ∷ rest) h = ap {B = List ℕ} (λ l. wordOf low high ∷ l) (h rest)
 
--- The words that stand in a room of n words are those of the first 2 n bytes.
-pub words-in-room : (n : ℕ) (bytes before room words : List ℕ) (count : ℕ) → length before ≡ n
-    → count ≡ length (wordsInto bytes before) → room ≡ over (wordsInto bytes before) before → words ≡ take count room
-    → words ≡ wordsOf (take (n + n) bytes)
-words-in-room n bytes before room words count same number holds front =
+-- The words that stand in a room of `n` words, zeros before, are those of the first 2 `n` bytes.
+pub words-in-room : (n : ℕ) (bytes : List ℕ) {room words : List ℕ} {count : ℕ}
+    → (count ≡ length (wordsInto bytes (replicate n 0))) × (room ≡ over (wordsInto bytes (replicate n 0)) (replicate n 0))
+    → words ≡ take count room → words ≡ wordsOf (take (n + n) bytes)
+words-in-room n bytes {count = count} holds front =
+    let into = wordsInto bytes (replicate n 0) in
     front
-    ∙ ap (take count) holds
-    ∙ take-at (wordsInto bytes before) (drop (length (wordsInto bytes before)) before) count (sym number)
-    ∙ ap {B = List ℕ} (λ (k : ℕ). take k (wordsOf bytes)) same
+    ∙ ap (take count) (holds .1)
+    ∙ take-at into (drop (length into) (replicate n 0)) count (sym (holds .0))
+    ∙ ap {B = List ℕ} (λ (k : ℕ). take k (wordsOf bytes)) (length-replicate {A = ℕ} n 0)
     ∙ cut n bytes
 
 -- The room holds the first i words, then its own.
@@ -64,10 +66,18 @@ module _ (bytes before : List ℕ) (count : ℕ) (least : count ≡ min (length 
 
   pub filling-length : (room : List ℕ) (i : ℕ) → Filling bytes before room count i → length room ≡ length before
   filling-length room i f =
-      omega (arith, least, f .inside, ap length (f .holds), length-append (take i (wordsOf bytes)) (drop i before), length-take i (wordsOf bytes), length-words bytes, length-drop i before)
+      omega (
+        arith,
+        least,
+        ap length (f .holds),
+        length-append (take i (wordsOf bytes)) (drop i before),
+        length-take i (wordsOf bytes),
+        length-words bytes,
+        length-drop i before,
+      )
 
   pub filling-more : (room : List ℕ) (i w : ℕ) → Filling bytes before room count i → i < count
-      → w ≡ getD bytes (2 * i) 0 + 256 * getD bytes (2 * i + 1) 0
+      → w ≡ wordOf (getD bytes (2 * i) 0) (getD bytes (2 * i + 1) 0)
       → Filling bytes before (set room i w) count (i + 1)
   filling-more room i w f h e =
       let words = wordsOf bytes in

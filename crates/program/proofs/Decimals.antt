@@ -5,9 +5,11 @@ use native.Mathlib.Nat.{pow-suc}
 use mathlib.Core.Path.{_≡_, sym, ap, subst, _∙_}
 use mathlib.Core.Bool.{Bool, cond}
 use mathlib.Core.List.{List}
+use mir.Syntax.{w64}
+use mir.Val.{Fits}
 use borrow.Author.Tests.{lt-ltb, le-ltb}
 use Rattle.io.specs.Digits.{digits, Fewest}
-use Rattle.program.specs.Texts.{digitCount, decimal}
+use Rattle.program.specs.Texts.{mostDigits, digitCount, decimal}
 
 power-more : (k : ℕ) → 10 ^ suc k ≡ 10 ^ k * 10
 power-more k = pow-suc 10 k
@@ -29,15 +31,19 @@ fewest-less n k f =
     (omega arith, omega (arith, f .1, power-more (suc k)), (λ h. subst (λ (j : ℕ). 10 ^ j ≤ n / 10) e less))
 
 -- A number below a power of ten has no more digits than the power.
-pub fewest-few : (most n k : ℕ) → Fewest 10 1 n k → n < 10 ^ suc most → k ≤ suc most
+fewest-few : (most n k : ℕ) → Fewest 10 1 n k → n < 10 ^ suc most → k ≤ suc most
 fewest-few most n zero f h = omega arith
 fewest-few most n (suc zero) f h = omega arith
 fewest-few zero n (suc (suc k)) f h = absurd (omega (arith, above n k f, h, power-more k, power-positive k))
 fewest-few (suc most) n (suc (suc k)) f h = omega (arith, fewest-few most (n / 10) (suc k) (fewest-less n k f) (omega (arith, h, power-more (suc most))))
 
-pub places-are : (most n k : ℕ) → Fewest 10 1 n k → k ≤ suc most → digitCount most n ≡ k
+-- Every 64-bit number has no more digits than a text has room for.
+pub digits-few : {n : ℕ} (k : ℕ) → Fits w64 n → Fewest 10 1 n k → k ≤ mostDigits
+digits-few {n} k h f = fewest-few (mostDigits - 1) n k f (omega arith)
+
+places-are : (most n k : ℕ) → Fewest 10 1 n k → k ≤ most → digitCount most n ≡ k
 unfolding digitCount
-places-are zero n k f h = omega (arith, f .0)
+places-are zero n k f h = absurd (omega (arith, f .0))
 places-are (suc most) n zero f h = absurd (omega (arith, f .0))
 places-are (suc most) n (suc zero) f h = rw (lt-ltb n 10 (f .1))
 places-are (suc most) n (suc (suc k)) f h =
@@ -45,6 +51,6 @@ places-are (suc most) n (suc (suc k)) f h =
     ap {B = ℕ} (λ (b : Bool). cond b 1 (suc (digitCount most (n / 10)))) (le-ltb n 10 more)
     ∙ ap suc (places-are most (n / 10) (suc k) (fewest-less n k f) (omega arith))
 
-pub decimal-is : (n k : ℕ) → Fewest 10 1 n k → k ≤ 20 → digits 10 k n ≡ decimal n
+pub decimal-is : (n k : ℕ) → Fewest 10 1 n k → k ≤ mostDigits → digits 10 k n ≡ decimal n
 unfolding decimal
-decimal-is n k f h = ap {B = List ℕ} (λ (j : ℕ). digits 10 j n) (sym (places-are 19 n k f h))
+decimal-is n k f h = ap {B = List ℕ} (λ (j : ℕ). digits 10 j n) (sym (places-are mostDigits n k f h))

@@ -13,27 +13,49 @@ use Rattle.hgn.specs.Replay.{replay}
 use Rattle.hgn.specs.Replay as Replay
 use Rattle.program.specs.Words.{wordsOf}
 
--- How many decimal digits a number has, counted up to one more than the first argument.
+-- The most digits of a number that is printed: they hold every 64-bit number.
+abbrev pub mostDigits : ℕ
+mostDigits = 20
+
+-- How many decimal digits a number has, counted up to the first argument.
 unfoldable pub digitCount : ℕ → ℕ → ℕ
-digitCount zero n = 1
+digitCount zero n = 0
 digitCount (suc k) n = cond (ltb n 10) 1 (suc (digitCount k (n / 10)))
 
--- A number below 10²⁰ in decimal digits, in ASCII.
+-- A number of no more digits than these, in ASCII.
 unfoldable pub decimal : ℕ → List ℕ
-decimal n = digits 10 (digitCount 19 n) n
+decimal n = digits 10 (digitCount mostDigits n) n
 
--- A number and the byte that ends it: a blank is 32, a newline 10.
+-- A number and the byte that ends it.
 unfoldable pub ended : ℕ → ℕ → List ℕ
 ended end n = decimal n ++ (end ∷ [])
 
+-- The bytes that end a number, in ASCII too.
+abbrev pub blank : ℕ
+blank = 32
+
+abbrev pub newline : ℕ
+newline = 10
+
 -- One line with number, place, plan count and cost.
 unfoldable pub heading : ℕ → ℕ → ℕ → ℕ → List ℕ
-heading number place count cost = ended 32 number ++ ended 32 place ++ ended 32 count ++ ended 10 cost
+heading number place count cost = ended blank number ++ ended blank place ++ ended blank count ++ ended newline cost
 
 -- One action number a line.
 unfoldable pub lines : List ℕ → List ℕ
 lines [] = []
-lines (k ∷ plan) = ended 10 k ++ lines plan
+lines (k ∷ plan) = ended newline k ++ lines plan
+
+-- The most bytes of a number with the byte that ends it, of the heading with its four numbers, and of the whole text: a plan has no more
+-- actions than a trace has steps.
+abbrev pub numberBytes : ℕ
+numberBytes = mostDigits + 1
+
+abbrev pub headingBytes : ℕ
+headingBytes = numberBytes * 4
+
+abbrev pub mostBytes : ℕ
+mostBytes = headingBytes + numberBytes * Trace.mostSteps
 
 unfoldable pub textOf : Replay.Replayed → List ℕ
 textOf r =

@@ -11,7 +11,7 @@ ghost use Prim.Native.Nat.{_≤_};
 ghost use lib.ListN.{length, take};
 ghost use Rattle.hgn.specs.Replay as Replay;
 ghost use Rattle.replay.specs.Answers.{replayedOf};
-ghost use Rattle.program.specs.Texts.{shopWords, orderWords, traceWords, printed};
+ghost use Rattle.program.specs.Texts.{shopWords, orderWords, traceWords, printed, mostBytes};
 
 // The replay of what three files say.
 fn replay_bytes(shop: &[u8], order: &[u8], trace: &[u8], plan: &mut [u16]) -> Answer
@@ -31,7 +31,7 @@ fn replay_bytes(shop: &[u8], order: &[u8], trace: &[u8], plan: &mut [u16]) -> An
 
 // The text goes into the first bytes of the room; what stands behind it is left free. Answers how many they are.
 pub fn write_answer(shop: &[u8], order: &[u8], trace: &[u8], room: &mut [u8]) -> usize
-    requires { ⌜ 86100 ≤ length (now room) ⌝ }
+    requires { ⌜ mostBytes ≤ length (now room) ⌝ }
     ensures { λ r. ⌜ take r (now (room .exit)) ≡ printed (now (shop .entry)) (now (order .entry)) (now (trace .entry)) ⌝ }
 {
     let mut plan = [0u16; Trace::MOST_STEPS as usize];

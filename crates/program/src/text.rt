@@ -5,17 +5,24 @@ ghost use mathlib.Core.List.{_++_};
 ghost use Prim.Native.Nat.{_+_, _*_, _≤_};
 ghost use lib.ListN.{length, take};
 ghost use lib.Seq.{paste};
-ghost use Rattle.program.specs.Texts.{ended, heading, lines};
+ghost use Rattle.program.specs.Texts.{ended, heading, lines, numberBytes, headingBytes};
 
 // The room for the text.
 pub struct Text;
 
 impl Text {
-    // 20 digits hold every 64-bit number; one byte more ends it.
-    pub const NUMBER_BYTES: usize = 21;
+    // So many digits hold every 64-bit number.
+    const MOST_DIGITS: usize = 20;
 
-    // Number, place, count and cost, then the plan.
-    pub const MOST_BYTES: usize = Text::NUMBER_BYTES * (4 + (Trace::MOST_STEPS as usize));
+    // A number takes its digits and a byte that ends it.
+    const NUMBER_BYTES: usize = Text::MOST_DIGITS + 1;
+
+    // The heading has four numbers: number, place, plan count and cost.
+    const HEADING_BYTES: usize = Text::NUMBER_BYTES * 4;
+
+    // Behind the heading stands the plan, which has no more actions than a trace has steps.
+    pub const MOST_BYTES: usize = Text::HEADING_BYTES
+        + Text::NUMBER_BYTES * (Trace::MOST_STEPS as usize);
 }
 
 // Bytes go into the text.
@@ -32,11 +39,11 @@ fn copy(from: &[u8], text: &mut [u8], at: usize)
 
 // A number and the byte that ends it go behind the first bytes of the text. Answers how many there are now.
 fn put(text: &mut [u8], at: usize, number: u64, end: u8) -> usize
-    requires { ⌜ at + 21 ≤ length (now text) ⌝ }
-    ensures few { λ r. ⌜ r ≤ at + 21 ⌝ }
+    requires { ⌜ at + numberBytes ≤ length (now text) ⌝ }
+    ensures few { λ r. ⌜ r ≤ at + numberBytes ⌝ }
     ensures text { λ r. ⌜ take r (now (text .exit)) ≡ take at (now (text .entry)) ++ ended end number ⌝ }
 {
-    let mut digits = [0u8; 20];
+    let mut digits = [0u8; Text::MOST_DIGITS];
     let count = io::decimal(number, &mut digits);
     copy(&digits[..count], text, at);
     text[at + count] = end;
@@ -45,8 +52,8 @@ fn put(text: &mut [u8], at: usize, number: u64, end: u8) -> usize
 
 // The four numbers of the first line.
 pub fn put_heading(text: &mut [u8], number: u16, place: u16, count: u16, cost: u32) -> usize
-    requires { ⌜ 84 ≤ length (now text) ⌝ }
-    ensures few { λ r. ⌜ r ≤ 84 ⌝ }
+    requires { ⌜ headingBytes ≤ length (now text) ⌝ }
+    ensures few { λ r. ⌜ r ≤ headingBytes ⌝ }
     ensures text { λ r. ⌜ take r (now (text .exit)) ≡ heading number place count cost ⌝ }
 {
     let first = put(text, 0, number as u64, b' ');
@@ -57,7 +64,7 @@ pub fn put_heading(text: &mut [u8], number: u16, place: u16, count: u16, cost: u
 
 // A line for each action of the plan, behind the first bytes of the text.
 pub fn put_lines(text: &mut [u8], at: usize, plan: &[u16]) -> usize
-    requires { ⌜ at + 21 * length (now plan) ≤ length (now text) ⌝ }
+    requires { ⌜ at + numberBytes * length (now plan) ≤ length (now text) ⌝ }
     ensures { λ r. ⌜ take r (now (text .exit)) ≡ take at (now (text .entry)) ++ lines (now (plan .entry)) ⌝ }
 {
     let mut end = at;

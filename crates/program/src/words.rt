@@ -1,12 +1,12 @@
 // Words of bytes. Document 01, "One core of sixty centimetres".
 ghost use mathlib.Core.Path.{_≡_};
-ghost use Prim.Native.Nat.{_+_, _*_, min};
+ghost use Prim.Native.Nat.{min};
 ghost use lib.ListN.{length, take};
-ghost use Rattle.program.specs.Words.{wordsInto, over};
+ghost use Rattle.program.specs.Words.{wordOf, wordsInto, over};
 
 // The low byte comes first.
 fn word(low: u8, high: u8) -> u16
-    ensures { λ r. ⌜ r ≡ low + 256 * high ⌝ }
+    ensures { λ r. ⌜ r ≡ wordOf low high ⌝ }
 {
     low as u16 + 256 * (high as u16)
 }

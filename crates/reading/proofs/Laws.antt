@@ -2,12 +2,12 @@
 use Prim.Native.Nat.{ℕ, _+_}
 use native.Mathlib.Omega.{arith}
 use mathlib.Core.Path.{_≡_, sym, ap, _∙_}
-use mathlib.Core.Bool.{Bool, true, false, cond, _||_, or-false}
+use mathlib.Core.Bool.{Bool, true, false, cond, _||_, _&&_, or-false}
 use mathlib.Core.List.{List, [], _∷_}
 use lib.Dec.{eqb, leb}
 use mir.Syntax.{w16}
 use mir.Val.{Fits}
-use borrow.Author.Tests.{eq-eqb, ne-eqb, le-leb}
+use borrow.Author.Tests.{eq-eqb, ne-eqb, le-leb, lt-leb}
 use Rattle.hgn.specs.Lists.{among, any}
 use Rattle.hgn.specs.Tag.{Position, begins, method, node, mostCost}
 use Rattle.hgn.proofs.Tests.{any-append}
@@ -17,7 +17,7 @@ use Rattle.reading.specs.Reading.{RowReading, next, refused}
 pub told : {r b v : Bool} → r ≡ b → r ≡ v → b ≡ v
 told e t = sym e ∙ t
 
--- A test decides a `cond` or an `or`.
+-- A test decides a `cond`, an `or` or an `and`.
 module _ {b : Bool} where
   pub cond-first : {A : Type 0} {x z : A} (y : A) → b ≡ true → z ≡ x → z ≡ cond b x y
   cond-first y e p = rw e p
@@ -30,6 +30,12 @@ module _ {b : Bool} where
 
   pub or-second : {y z : Bool} → b ≡ false → z ≡ y → z ≡ (b || y)
   or-second e p = rw e p
+
+  pub and-first : (y : Bool) → b ≡ false → false ≡ (b && y)
+  and-first y e = rw e
+
+  pub and-second : {y z : Bool} → b ≡ true → z ≡ y → z ≡ (b && y)
+  and-second e p = rw e p
 
 -- A tag is the first of a list, or it is looked for among the others.
 module _ (t a : ℕ) where
@@ -84,7 +90,8 @@ same-refused e = ap {B = RowReading} refused e
 pub same-sum : {m n : ℕ} (k : ℕ) → m ≡ n → m + k ≡ n + k
 same-sum k e = omega arith
 
--- `chosen`: by answers of calls. `decided`: by those and by a tag. `listed`: a tag in a list. `same`: readings.
+-- `chosen`: by answers of calls. `decided`: by those and by a tag. `listed`: a tag in a list. `same`: readings. `within`: limits, all kept
+-- to or one not.
 pub ruleset chosen = (told, cond-first, cond-second)
 
 pub ruleset decided = (chosen, eq-eqb, ne-eqb)
@@ -92,3 +99,5 @@ pub ruleset decided = (chosen, eq-eqb, ne-eqb)
 pub ruleset listed = (told, among-one, among-first, among-rest, among-front, among-back)
 
 pub ruleset same = (same-next, same-refused, same-sum)
+
+pub ruleset within = (and-first, and-second, eq-eqb, ne-eqb, le-leb, lt-leb)

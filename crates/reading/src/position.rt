@@ -2,8 +2,10 @@
 // Document 01, "The three sheets" and "Questions".
 use crate::tag;
 ghost use mathlib.Core.Path.{_≡_};
-ghost use Prim.Native.Nat.{_<_};
+ghost use Prim.Native.Nat.{_+_};
 ghost use lib.Dec.{ltb};
+ghost use mir.Syntax.{w16};
+ghost use mir.Val.{Fits};
 ghost use Rattle.hgn.specs.Lists.{among};
 ghost use Rattle.hgn.specs.Tag.{contextAfter, mayEnd, leastHere, inRange, rises, advance, opening};
 ghost use Rattle.reading.specs.Reading.{contextOf, positionOf, followOf, firstQuestionOf, readingOf, rowReading, goesOn, above};
@@ -226,7 +228,7 @@ impl Position {
 
     // The position after a row.
     pub fn advance(self, tag: u16, value: u16) -> Position
-        requires { ⌜ self .nodes < 65535 ⌝ }
+        requires { ⌜ Fits w16 (self .nodes + 1) ⌝ }
         ensures { λ r. ⌜ positionOf r ≡ advance (positionOf self) tag value ⌝ }
     {
         let before = self.context;
@@ -305,7 +307,7 @@ impl Position {
 
     // Tag allowed here? Value in range? Value above the one before it in its group?
     pub fn read(self, sheet: Sheet, atoms: u16, tag: u16, value: u16) -> Reading
-        requires { ⌜ self .nodes < 65535 ⌝ }
+        requires { ⌜ Fits w16 (self .nodes + 1) ⌝ }
         ensures { λ r. ⌜ readingOf r ≡ rowReading (followOf sheet) (firstQuestionOf sheet) atoms (positionOf self) tag value ⌝ }
     {
         let question = sheet.first_question();

@@ -1,6 +1,6 @@
 -- The counts of `specs/Tally.antt` are those of the definitions: the actions, the methods, and the answer to question 9.
 -- Assumes nothing.
-use Prim.Native.Nat.{ℕ, suc, _+_, _-_, _<_}
+use Prim.Native.Nat.{ℕ, suc, _+_, _-_, _≤_}
 use native.Mathlib.Nat.{add-zero, add-suc, zero-add, suc-add}
 use native.Mathlib.Numerals.{sub-one}
 use native.Mathlib.Omega.{arith}
@@ -9,23 +9,26 @@ use mathlib.Core.Bool.{Bool, true, false, not, cond, _&&_}
 use mathlib.Core.List.{List, [], _∷_}
 use lib.Dec.{eqb, leb}
 use lib.ListN.{length, length-map}
+use mir.Syntax.{w16}
+use mir.Val.{Fits}
 use borrow.Author.Tests.{eqb-true, le-leb}
 use Rattle.hgn.specs.Lists.{keep, upTo, parts}
 use Rattle.hgn.specs.Rows.{Row, row, has, valuesOf}
 use Rattle.hgn.specs.Meaning.{Node, Domain, nodeOf, nodesOf, methodOf, opens, headed, domainOf, lastOf}
 use Rattle.hgn.specs.Questions.{_asks_, _askedAt_, Verdict, passed, refused, firstNo}
-use Rattle.hgn.specs.Shop.{nodeRules, methodQuestions}
+use Rattle.hgn.specs.Shop.{mostNodes, nodeRules, methodQuestions}
+use Rattle.hgn.specs.Tag as Tag
 use Rattle.scan.specs.declared.tally.Tally.{Tally}
-use Rattle.scan.specs.Tally.{nothing, withinRules, noted, closed, withAction, withMethod, withCounts, counted, countedRows, foundIn, Within, Small}
+use Rattle.scan.specs.Tally.{nothing, withinRules, noted, closed, withAction, withMethod, withCounts, counted, countedRows, foundIn, Each, Within, Small}
 
 -- By the tag: one that is counted, or another, which changes nothing.
-by-tag : (P : ℕ → Type 0) → P 1 → P 2 → P 7 → P 8 → P 11
+by-tag : (P : ℕ → Type 0) → P Tag.action → P Tag.method → P Tag.node → P Tag.alternative → P Tag.after
     → ((k : ℕ) → ((t : Tally) → counted t k ≡ t)
-    → eqb k 1 ≡ false → eqb k 2 ≡ false → eqb k 7 ≡ false → eqb k 8 ≡ false → eqb k 11 ≡ false → P k)
+    → eqb k Tag.action ≡ false → eqb k Tag.method ≡ false → eqb k Tag.node ≡ false → eqb k Tag.alternative ≡ false → eqb k Tag.after ≡ false → P k)
     → (k : ℕ) → P k
 unfolding counted
-by-tag P one two seven eight eleven other k =
-    is 1 one λ a. is 2 two λ b. is 7 seven λ c. is 8 eight λ d. is 11 eleven λ e.
+by-tag P action method node alternative after other k =
+    is Tag.action action λ a. is Tag.method method λ b. is Tag.node node λ c. is Tag.alternative alternative λ d. is Tag.after after λ e.
     other k (λ t. rw (a, b, c, d, e)) a b c d e
   where
     is : (n : ℕ) → P n → (eqb k n ≡ false → P k) → P k
@@ -53,19 +56,25 @@ closed-keeps t = closed-is (λ u. (u .actions ≡ t .actions) × (u .methods ≡
 pub within-nothing : Within 0 nothing
 within-nothing = omega arith
 
-pub within-closed : (n : ℕ) (t : Tally) → Within n t → Within n (closed t)
+pub each-closed : (P : ℕ → Type 0) (t : Tally) → Each P t → Each P (closed t)
 unfolding noted
-within-closed n t w = closed-is (Within n) t w (omega arith)
+each-closed P t w = closed-is (Each P) t w (record {
+  actions = w .actions;
+  methods = w .methods;
+  nodes = w .nodes;
+  alternatives = w .alternatives;
+  afters = w .afters;
+})
 
 pub within-counted : (n : ℕ) (t : Tally) (tag : ℕ) → Within n t → Within (suc n) (counted t tag)
 unfolding counted withAction withMethod withCounts
 within-counted n t tag w =
-    let v = within-closed n t w in
+    let v = each-closed (λ k. k ≤ n) t w in
     by-tag (λ k. Within (suc n) (counted t k)) (omega arith) (omega arith) (omega arith) (omega arith) (omega arith)
     (λ k other a b c d e. rw (other t) (omega arith))
     tag
 
-pub within-small : (n : ℕ) (t : Tally) → n < 65535 → Within n t → Small t
+pub within-small : (n : ℕ) (t : Tally) → Fits w16 (n + 1) → Within n t → Small t
 within-small n t h w = omega arith
 
 -- `u` has the actions and the methods of `d` on top of those of `t`.
@@ -80,9 +89,9 @@ rows-add t (r ∷ rs) =
     by-tag (λ k. Adds (domainOf (row k (r .value) ∷ rs)) t (countedRows (counted t k) rs))
     (let h = rows-add (withAction (closed t)) rs in omega arith)
     (let h = rows-add (withMethod (closed t)) rs in omega arith)
-    (rows-add (counted t 7) rs)
-    (rows-add (counted t 8) rs)
-    (rows-add (counted t 11) rs)
+    (rows-add (counted t Tag.node) rs)
+    (rows-add (counted t Tag.alternative) rs)
+    (rows-add (counted t Tag.after) rs)
     (λ k other a b c d e. rw (other t, a, b) (rows-add t rs))
     (r .tag)
 
@@ -113,8 +122,8 @@ last-number f k n (m ∷ ms) = last-number f (f n) m ms
 withRows : Tally → List Row → Tally
 withRows t b =
     withCounts t (t .nodes + length (nodesOf b))
-    (lastNumber alternativesOf (t .alternatives + length (parts (has 8) (upTo (has 7) b))) (nodesOf b))
-    (lastNumber aftersOf (t .afters + length (valuesOf 11 (upTo (has 7) b))) (nodesOf b))
+    (lastNumber alternativesOf (t .alternatives + length (parts (has Tag.alternative) (upTo (has Tag.node) b))) (nodesOf b))
+    (lastNumber aftersOf (t .afters + length (valuesOf Tag.after (upTo (has Tag.node) b))) (nodesOf b))
 
 rows-counted : (t : Tally) (rs : List Row) → countedRows t (upTo opens rs) ≡ withRows t (upTo opens rs)
 unfolding withRows upTo countedRows counted withCounts nodesOf nodeOf parts valuesOf lastNumber
@@ -123,21 +132,21 @@ rows-counted t (r ∷ rs) =
     by-tag (λ k. let b = upTo opens (row k (r .value) ∷ rs) in countedRows t b ≡ withRows t b)
     (simp add-zero)
     (simp add-zero)
-    (rows-counted (counted t 7) rs ∙ simp (zero-add, suc-add, add-suc, length-map))
-    (rows-counted (counted t 8) rs ∙ rw (suc-add, add-suc))
-    (rows-counted (counted t 11) rs ∙ rw (suc-add, add-suc))
+    (rows-counted (counted t Tag.node) rs ∙ simp (zero-add, suc-add, add-suc, length-map))
+    (rows-counted (counted t Tag.alternative) rs ∙ rw (suc-add, add-suc))
+    (rows-counted (counted t Tag.after) rs ∙ rw (suc-add, add-suc))
     (λ k other a b c d e. rw (a, b) (rw (other t, c, d, e, countedRows) (rows-counted t rs)))
     (r .tag)
 
 -- A method is within the tally's rules at its end exactly when it is within its node rules.
 method-counted : (t : Tally) (v : ℕ) (rs : List Row)
-    → withinRules (countedRows (withMethod t) (upTo opens rs)) ≡ nodeRules (methodOf (row 2 v ∷ upTo opens rs))
+    → withinRules (countedRows (withMethod t) (upTo opens rs)) ≡ nodeRules (methodOf (row Tag.method v ∷ upTo opens rs))
 unfolding withRows withinRules withMethod withCounts nodeRules methodOf nodesOf parts lastNumber lastOf
 method-counted t v rs = rw (rows-counted (withMethod t) rs) (go _ _ (nodesOf (upTo opens rs)))
   where
     go : (j k : ℕ) (ns : List Node)
-        → leb 1 (0 + length ns) && leb (0 + length ns) 63 && eqb (lastNumber alternativesOf j ns) 1 && eqb (lastNumber aftersOf k ns) 0
-        ≡ leb 1 (length ns) && leb (length ns) 63 && eqb (alternativesOf (lastOf ns)) 1 && eqb (aftersOf (lastOf ns)) 0
+        → leb 1 (0 + length ns) && leb (0 + length ns) mostNodes && eqb (lastNumber alternativesOf j ns) 1 && eqb (lastNumber aftersOf k ns) 0
+        ≡ leb 1 (length ns) && leb (length ns) mostNodes && eqb (alternativesOf (lastOf ns)) 1 && eqb (aftersOf (lastOf ns)) 0
     go j k [] = refl
     go j k (n ∷ ns) = rw (zero-add, last-number alternativesOf j n ns, last-number aftersOf k n ns)
 
@@ -178,9 +187,9 @@ rules-from t (r ∷ rs) =
     (rules-from (withMethod (closed t)) rs
     ∙ rw (method-counted (closed t) (r .value) rs, closed-keeps t .1, le-leb 1 (suc (t .methods)) (omega arith), sub-one (suc (t .methods)))
     (closed-answered t _))
-    (rules-from (counted t 7) rs)
-    (rules-from (counted t 8) rs)
-    (rules-from (counted t 11) rs)
+    (rules-from (counted t Tag.node) rs)
+    (rules-from (counted t Tag.alternative) rs)
+    (rules-from (counted t Tag.after) rs)
     (λ k other a b c d e. rw (other t, a, b) (rw (other t, countedRows) (rules-from t rs)))
     (r .tag)
 

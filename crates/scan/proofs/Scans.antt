@@ -9,7 +9,7 @@ use lib.Dec.{eqb}
 use lib.ListN.{length, getD, drop, drop-of-length-le}
 use lib.Seq.{drop-cons}
 use Rattle.hgn.specs.Lists.{among}
-use Rattle.hgn.specs.Rows.{Row, row, rowQuestions, positionAfter}
+use Rattle.hgn.specs.Rows.{Row, row, rowsOf, rowQuestions, positionAfter}
 use Rattle.hgn.specs.Tag as Tag
 use Rattle.hgn.specs.Questions as Questions
 use Rattle.hgn.specs.Questions.{_asks_, _askedAt_, firstNo}
@@ -22,6 +22,7 @@ use Rattle.reading.specs.declared.position.Context.{Context}
 use Rattle.reading.specs.declared.position.Position.{Position}
 use Rattle.scan.specs.declared.tally.Tally.{Tally}
 use Rattle.scan.proofs.Counts.{within-nothing, within-counted}
+use Rattle.scan.proofs.Lookup.{rows-length, rows-at}
 
 -- What the three questions of a row come to is what the questions of the rows from there on begin with.
 module _ (follow : Tag.Context → List ℕ) (q F i : ℕ) (p : Tag.Position) (t v : ℕ) (rest : List Row) where
@@ -72,7 +73,7 @@ nodes-advance p t v = go (eqb t Tag.method) (eqb t Tag.node)
     go false true = omega arith
     go false false = omega arith
 
-first≢0 : (sheet : Sheet) → 1 ≤ firstQuestionOf sheet
+pub first≢0 : (sheet : Sheet) → 1 ≤ firstQuestionOf sheet
 first≢0 Shop = omega arith
 first≢0 Order = omega arith
 
@@ -100,7 +101,7 @@ module _ (sheet : Sheet) (F : ℕ) (rs : List Row) where
     rest : drop i rs ≡ row tag value ∷ drop (i + 1) rs
     rest = drop-cons rs i (row 0 0) h ∙ ap₂ {C = List Row} (λ r k. r ∷ drop k rs) at (sym (add-one i))
 
-    pub going-next : (p′ : Position) (t′ : Tally) → next (positionOf p′) ≡ rowReading (followOf sheet) (firstQuestionOf sheet) F (positionOf p) tag value
+    going-next : (p′ : Position) (t′ : Tally) → next (positionOf p′) ≡ rowReading (followOf sheet) (firstQuestionOf sheet) F (positionOf p) tag value
         → t′ ≡ counted t tag → Going sheet F rs (i + 1) p′ t′
     unfolding positionAfter countedRows
     going-next p′ t′ e d =
@@ -122,7 +123,7 @@ module _ (sheet : Sheet) (F : ℕ) (rs : List Row) where
           counts = subst (λ (k : ℕ). Within k t′) (sym (add-one i)) (subst (Within (suc i)) (sym d) (within-counted i t tag (g .counts)));
         }
 
-    pub going-refused : (number : ℕ) → refused number ≡ rowReading (followOf sheet) (firstQuestionOf sheet) F (positionOf p) tag value
+    going-refused : (number : ℕ) → refused number ≡ rowReading (followOf sheet) (firstQuestionOf sheet) F (positionOf p) tag value
         → (firstNo (questionsOf sheet F rs) ≡ Questions.refused ((number asks false askedAt i) .refusal)) × (1 ≤ number)
     going-refused number e =
         let r = row-refused (followOf sheet) (firstQuestionOf sheet) F i (positionOf p) tag value (drop (i + 1) rs) number e in (
@@ -130,7 +131,7 @@ module _ (sheet : Sheet) (F : ℕ) (rs : List Row) where
           omega (arith, first≢0 sheet, r .1),
         )
 
-  pub going-end : (i : ℕ) (p : Position) (t : Tally) → Going sheet F rs i p t → length rs ≤ i
+  going-end : (i : ℕ) (p : Position) (t : Tally) → Going sheet F rs i p t → length rs ≤ i
       → (firstNo (questionsOf sheet F rs) ≡ Questions.passed) × (positionOf p ≡ positionAfter Tag.opening rs) × (t ≡ countedRows nothing rs)
   unfolding rowQuestions firstNo positionAfter countedRows
   going-end i p t g h =
@@ -139,3 +140,29 @@ module _ (sheet : Sheet) (F : ℕ) (rs : List Row) where
         sym (g .position ∙ ap (positionAfter (positionOf p)) e),
         sym (g .tally ∙ ap (countedRows t) e),
       )
+
+-- The same of the rows that stand in a sheet's words.
+module _ (sheet : Sheet) (F sizes n : ℕ) (words : List ℕ) (fits : sizes + (n + n) ≤ length words) where
+  abbrev rows : List Row
+  rows = rowsOf sizes n words
+
+  module _ {i : ℕ} {p : Position} {t : Tally} (g : Going sheet F rows i p t) (h : i < n)
+      {tag value : ℕ} (is-tag : tag ≡ getD words (sizes + i) 0) (is-value : value ≡ getD words (sizes + n + i) 0) where
+    inside : i < length rows
+    inside = rw (rows-length sizes n words fits) h
+
+    read : getD rows i (row 0 0) ≡ row tag value
+    read = rows-at sizes n words fits i h ∙ ap₂ row (sym is-tag) (sym is-value)
+
+    pub read-next : {p′ : Position} {t′ : Tally}
+        → next (positionOf p′) ≡ rowReading (followOf sheet) (firstQuestionOf sheet) F (positionOf p) tag value → t′ ≡ counted t tag
+        → Going sheet F rows (i + 1) p′ t′
+    read-next {p′} {t′} = going-next sheet F rows i p t g inside tag value read p′ t′
+
+    pub read-refused : (number : ℕ) → refused number ≡ rowReading (followOf sheet) (firstQuestionOf sheet) F (positionOf p) tag value
+        → (firstNo (questionsOf sheet F rows) ≡ Questions.refused ((number asks false askedAt i) .refusal)) × (1 ≤ number)
+    read-refused = going-refused sheet F rows i p t g inside tag value read
+
+  pub read-end : {i : ℕ} {p : Position} {t : Tally} → Going sheet F rows i p t → n ≤ i
+      → (firstNo (questionsOf sheet F rows) ≡ Questions.passed) × (positionOf p ≡ positionAfter Tag.opening rows) × (t ≡ countedRows nothing rows)
+  read-end {i} {p} {t} g h = going-end sheet F rows i p t g (rw (rows-length sizes n words fits) h)

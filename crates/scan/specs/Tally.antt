@@ -1,8 +1,10 @@
 -- What questions 8 and 9 of document 01, "Questions", count, row after row. That these counts are those of the definitions is proved in `proofs/Counts.antt`.
-use Prim.Native.Nat.{ℕ, suc, _-_, _≤_}
+use Prim.Native.Nat.{ℕ, suc, _+_, _-_, _≤_}
 use mathlib.Core.Bool.{Bool, true, false, not, cond, _&&_}
 use mathlib.Core.List.{List, [], _∷_}
 use lib.Dec.{eqb, leb}
+use mir.Syntax.{w16}
+use mir.Val.{Fits}
 use Rattle.hgn.specs.Tag as Tag
 use Rattle.hgn.specs.Rows.{Row}
 use Rattle.hgn.specs.Shop.{mostNodes}
@@ -95,14 +97,18 @@ countedRows t (r ∷ rs) = countedRows (counted t (r .tag)) rs
 unfoldable pub foundIn : Tally → Verdict
 foundIn t = cond (t .found) (refused ((9 asks false askedAt t .first) .refusal)) passed
 
+-- Every count is such a number.
+pub record Each (P : ℕ → Type 0) (t : Tally) : Type 0 where
+  pub actions : P (t .actions)
+  pub methods : P (t .methods)
+  pub nodes : P (t .nodes)
+  pub alternatives : P (t .alternatives)
+  pub afters : P (t .afters)
+
 -- Every count is at most `n`.
-pub record Within (n : ℕ) (t : Tally) : Type 0 where
-  pub actions : t .actions ≤ n
-  pub methods : t .methods ≤ n
-  pub nodes : t .nodes ≤ n
-  pub alternatives : t .alternatives ≤ n
-  pub afters : t .afters ≤ n
+abbrev pub Within : ℕ → Tally → Type 0
+Within n = Each (λ k. k ≤ n)
 
 -- One more of anything fits a 16-bit word.
 abbrev pub Small : Tally → Type 0
-Small t = Within 65534 t
+Small = Each (λ k. Fits w16 (k + 1))

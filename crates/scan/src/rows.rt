@@ -9,7 +9,7 @@ ghost use mathlib.Core.Bool.{false};
 ghost use Prim.Native.Nat.{_+_, _<_, _≤_};
 ghost use lib.ListN.{length, getD};
 ghost use Rattle.hgn.specs.Questions.{_asks_, _askedAt_, passed, told};
-ghost use Rattle.hgn.specs.Rows.{rowsOf};
+ghost use Rattle.hgn.specs.Rows.{mostRows, rowsOf};
 ghost use Rattle.reading.specs.Refusals.{refusalOf};
 ghost use Rattle.scan.specs.Scanned.{Scanned};
 
@@ -89,7 +89,7 @@ impl Layout {
 
     // The questions of every row, in order.
     pub fn scan(self, words: &[u16], sheet: Sheet, atoms: u16) -> Scan
-        requires { ⌜ (self .sizes + (self .rows + self .rows) ≤ length (now words)) × (self .rows ≤ 4000) ⌝ }
+        requires { ⌜ (self .sizes + (self .rows + self .rows) ≤ length (now words)) × (self .rows ≤ mostRows) ⌝ }
         ensures { λ r. ⌜ Scanned sheet atoms (rowsOf (self .sizes) (self .rows) (now (words .entry))) r ⌝ }
     {
         let rows = self.rows;

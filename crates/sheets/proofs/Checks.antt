@@ -7,11 +7,11 @@ use mathlib.Core.Bool.{Bool, true, false, cond, true≢false, and-eq-true-iff}
 use mathlib.Core.Logic.{_≢_}
 use mathlib.Core.List.{List, [], _∷_, _++_}
 use lib.Dec.{eqb}
-use lib.ListN.{length, getD, length-map}
+use lib.ListN.{length, length-map}
 use borrow.Author.Tests.{eq-eqb, ne-eqb, eqb-true, le-leb, lt-leb, leb-true}
 use Rattle.hgn.specs.Lists.{among, any, parts, upTo}
-use Rattle.hgn.specs.Questions.{_asks_, _askedAt_, Verdict, passed, refused, firstNo}
-use Rattle.hgn.specs.Rows.{Row, has, rowQuestions, positionAfter}
+use Rattle.hgn.specs.Questions.{Question, _asks_, _askedAt_, Verdict, passed, refused, firstNo}
+use Rattle.hgn.specs.Rows.{Row, mostRows, has, rowQuestions, positionAfter}
 use Rattle.hgn.specs.Tag as Tag
 use Rattle.hgn.specs.Meaning.{nodesOf, nodeOf, orderOf}
 use Rattle.hgn.specs.Shop as Shop
@@ -19,48 +19,54 @@ use Rattle.hgn.specs.Order as Order
 use Rattle.hgn.specs.Trace as Trace
 use Rattle.hgn.proofs.Firsts.{passed-cons, Numbers, told-passed, told-on}
 use Rattle.hgn.proofs.Numbers.{rows-numbers}
-use Rattle.reading.specs.Reading.{positionOf}
+use Rattle.reading.specs.Reading.{followOf, firstQuestionOf, positionOf}
 use Rattle.reading.specs.Refusals.{refusalOf}
 use Rattle.scan.specs.Tally.{foundIn, closed}
 use Rattle.scan.specs.Scanned.{Scanned, questionsOf}
-use Rattle.sheets.specs.Answers.{shopSizes, orderSizes}
 use Rattle.reading.specs.declared.position.Sheet.{Sheet}
 use Rattle.reading.specs.declared.position.Sheet.the-variants as Of
 use Rattle.scan.specs.declared.rows.Scan.{Scan}
 use Rattle.scan.specs.declared.tally.Tally.{Tally}
 use Rattle.scan.proofs.Counts.{actions-counted, methods-counted, rules-counted}
+use Rattle.scan.proofs.Scans.{first≢0}
 
 -- No question of a row has the number 0.
-pub rows-numbered : (sheet : Sheet) (F : ℕ) (rows : List Row) → Numbers (λ k. k ≢ 0) (questionsOf sheet F rows)
-rows-numbered Of.Shop F rows =
-    rows-numbers (λ k. k ≢ 0) (λ k l. omega arith) Tag.shopFollow 4 F 0 Tag.opening rows (omega arith) (omega arith) (omega arith)
-rows-numbered Of.Order F rows =
-    rows-numbers (λ k. k ≢ 0) (λ k l. omega arith) Tag.orderFollow 14 F 0 Tag.opening rows (omega arith) (omega arith) (omega arith)
+rows-numbered : (sheet : Sheet) (F : ℕ) (rows : List Row) → Numbers (λ k. k ≢ 0) (questionsOf sheet F rows)
+rows-numbered sheet F rows =
+    let first = first≢0 sheet in
+    rows-numbers (λ k. k ≢ 0) (λ k l. omega arith) (followOf sheet) (firstQuestionOf sheet) F 0 Tag.opening rows (omega arith) (omega arith) (omega arith)
+
+-- Where the rows passed, the first no is that of what is asked after them, and the scan knows whether the sheet may end.
+module _ (sheet : Sheet) (F : ℕ) (rows : List Row) {s : Scan} (sc : Scanned sheet F rows s) (z : s .refusal .number ≡ 0) where
+  ends-follow : (ends : List Question) → firstNo (questionsOf sheet F rows ++ ends) ≡ firstNo ends
+  ends-follow ends = told-on (questionsOf sheet F rows) ends (refusalOf (s .refusal)) (sc .refusal) (rows-numbered sheet F rows) z
+
+  position-same : Tag.mayEnd (positionAfter Tag.opening rows .context) ≡ Tag.mayEnd (positionOf (s .position) .context)
+  position-same = ap (λ (p : Tag.Position). Tag.mayEnd (p .context)) (sym (sc .position z))
 
 module _ (shop : List ℕ) where
-  pub shop-short : length shop < 4 → Shop.checkShop shop ≡ refused ((1 asks false) .refusal)
+  pub shop-short : length shop < Shop.sizeWords → Shop.checkShop shop ≡ refused ((1 asks false) .refusal)
   unfolding Shop.checkShop Shop.shopQuestions firstNo
-  shop-short h = rw (lt-leb 4 (length shop) h)
+  shop-short h = rw (lt-leb Shop.sizeWords (length shop) h)
 
-  sizes-same : Shop.sizesInRange shop ≡ shopSizes (getD shop 0 0) (getD shop 1 0) (getD shop 2 0) (getD shop 3 0)
-  unfolding Shop.sizesInRange shopSizes
-  sizes-same = refl
-
-  module _ (long : 4 ≤ length shop) where
-    pub shop-sizes-no : shopSizes (getD shop 0 0) (getD shop 1 0) (getD shop 2 0) (getD shop 3 0) ≡ false
-        → Shop.checkShop shop ≡ refused ((2 asks false) .refusal)
+  module _ (long : Shop.sizeWords ≤ length shop) where
+    pub shop-sizes-no : Shop.sizesInRange shop ≡ false → Shop.checkShop shop ≡ refused ((2 asks false) .refusal)
     unfolding Shop.checkShop Shop.shopQuestions firstNo
-    shop-sizes-no e = rw (le-leb 4 (length shop) long, sizes-same ∙ e)
+    shop-sizes-no e = rw (le-leb Shop.sizeWords (length shop) long, e)
 
-    module _ (sizes : shopSizes (getD shop 0 0) (getD shop 1 0) (getD shop 2 0) (getD shop 3 0) ≡ true) where
-      pub shop-length-no : length shop ≢ 4 + 2 * getD shop 3 0 → Shop.checkShop shop ≡ refused ((3 asks false) .refusal)
+    module _ (sizes : Shop.sizesInRange shop ≡ true) where
+      pub shop-length-no : length shop ≢ Shop.sizeWords + 2 * Shop.rowCount shop → Shop.checkShop shop ≡ refused ((3 asks false) .refusal)
       unfolding Shop.checkShop Shop.shopQuestions firstNo
-      shop-length-no e = rw (le-leb 4 (length shop) long, sizes-same ∙ sizes, ne-eqb (length shop) (4 + 2 * getD shop 3 0) e)
+      shop-length-no e = rw (le-leb Shop.sizeWords (length shop) long, sizes, ne-eqb (length shop) (Shop.sizeWords + 2 * Shop.rowCount shop) e)
 
-      pub shop-rest : length shop ≡ 4 + 2 * getD shop 3 0
+      pub shop-rest : length shop ≡ Shop.sizeWords + 2 * Shop.rowCount shop
           → Shop.checkShop shop ≡ firstNo (questionsOf Of.Shop (Shop.atomCount shop) (Shop.shopRows shop) ++ Shop.shopEndQuestions shop)
       unfolding Shop.checkShop Shop.shopQuestions firstNo
-      shop-rest e = rw (le-leb 4 (length shop) long, sizes-same ∙ sizes, eq-eqb (length shop) (4 + 2 * getD shop 3 0) e)
+      shop-rest e = rw (le-leb Shop.sizeWords (length shop) long, sizes, eq-eqb (length shop) (Shop.sizeWords + 2 * Shop.rowCount shop) e)
+
+  pub shop-rows-few : Shop.sizesInRange shop ≡ true → Shop.rowCount shop ≤ mostRows
+  unfolding Shop.sizesInRange
+  shop-rows-few e = let s = simp and-eq-true-iff at e in omega (arith, leb-true)
 
 -- What is asked of a shop sheet after its rows, question by question.
 module _ (shop : List ℕ) (s : Scan) (sc : Scanned Of.Shop (Shop.atomCount shop) (Shop.shopRows shop) s) (z : s .refusal .number ≡ 0) where
@@ -69,10 +75,10 @@ module _ (shop : List ℕ) (s : Scan) (sc : Scanned Of.Shop (Shop.atomCount shop
   shopEnd = firstNo (questionsOf Of.Shop (Shop.atomCount shop) (Shop.shopRows shop) ++ Shop.shopEndQuestions shop)
 
   shop-follow : shopEnd ≡ firstNo (Shop.shopEndQuestions shop)
-  shop-follow = told-on _ _ (refusalOf (s .refusal)) (sc .refusal) (rows-numbered Of.Shop (Shop.atomCount shop) (Shop.shopRows shop)) z
+  shop-follow = ends-follow Of.Shop _ _ sc z _
 
-  position-same : Tag.mayEnd (positionAfter Tag.opening (Shop.shopRows shop) .context) ≡ Tag.mayEnd (positionOf (s .position) .context)
-  position-same = ap (λ (p : Tag.Position). Tag.mayEnd (p .context)) (sym (sc .position z))
+  shop-position : Tag.mayEnd (positionAfter Tag.opening (Shop.shopRows shop) .context) ≡ Tag.mayEnd (positionOf (s .position) .context)
+  shop-position = position-same Of.Shop _ _ sc z
 
   actions-same : length (Shop.domain shop .actions) ≡ s .tally .actions
   unfolding Shop.domain
@@ -84,12 +90,12 @@ module _ (shop : List ℕ) (s : Scan) (sc : Scanned Of.Shop (Shop.atomCount shop
 
   pub shop-end-7 : Tag.mayEnd (positionOf (s .position) .context) ≡ false → shopEnd ≡ refused ((7 asks false) .refusal)
   unfolding Shop.shopEndQuestions firstNo
-  shop-end-7 e = shop-follow ∙ rw (position-same ∙ e)
+  shop-end-7 e = shop-follow ∙ rw (shop-position ∙ e)
 
   module _ (ends : Tag.mayEnd (positionOf (s .position) .context) ≡ true) where
     pub shop-end-actions : s .tally .actions ≢ Shop.actionCount shop → shopEnd ≡ refused ((8 asks false) .refusal)
     unfolding Shop.shopEndQuestions firstNo
-    shop-end-actions e = shop-follow ∙ rw (position-same ∙ ends, actions-same, ne-eqb (s .tally .actions) (Shop.actionCount shop) e)
+    shop-end-actions e = shop-follow ∙ rw (shop-position ∙ ends, actions-same, ne-eqb (s .tally .actions) (Shop.actionCount shop) e)
 
     module _ (few : s .tally .actions ≡ Shop.actionCount shop) where
       pub shop-end-methods : s .tally .methods ≢ Shop.methodCount shop → shopEnd ≡ refused ((8 asks false) .refusal)
@@ -97,7 +103,7 @@ module _ (shop : List ℕ) (s : Scan) (sc : Scanned Of.Shop (Shop.atomCount shop
       shop-end-methods e =
           shop-follow
           ∙ rw (
-            position-same ∙ ends,
+            shop-position ∙ ends,
             actions-same,
             eq-eqb (s .tally .actions) (Shop.actionCount shop) few,
             methods-same,
@@ -109,7 +115,7 @@ module _ (shop : List ℕ) (s : Scan) (sc : Scanned Of.Shop (Shop.atomCount shop
       shop-end-rules e c =
           shop-follow
           ∙ rw (
-            position-same ∙ ends,
+            shop-position ∙ ends,
             actions-same,
             eq-eqb (s .tally .actions) (Shop.actionCount shop) few,
             methods-same,
@@ -130,16 +136,16 @@ order-tag : (c : Tag.Context) (t : ℕ) → among t (Tag.orderFollow c) ≡ true
 unfolding among any Tag.orderFollow
 order-tag c t e = go (eqb t Tag.method) refl c e
   where
-    go : (b : Bool) → eqb t 2 ≡ b → (c : Tag.Context) → among t (Tag.orderFollow c) ≡ true → b ≡ false
+    go : (b : Bool) → eqb t Tag.method ≡ b → (c : Tag.Context) → among t (Tag.orderFollow c) ≡ true → b ≡ false
     go false q c e = refl
-    go true q Tag.atStart e = sym (rw (eqb-true t 2 q) at e)
+    go true q Tag.atStart e = sym (rw (eqb-true t Tag.method q) at e)
     go true q Tag.inAction e = sym e
     go true q Tag.inEffects e = sym e
     go true q Tag.inMethod e = sym e
-    go true q Tag.inNode e = sym (rw (eqb-true t 2 q) at e)
-    go true q Tag.inAlternative e = sym (rw (eqb-true t 2 q) at e)
+    go true q Tag.inNode e = sym (rw (eqb-true t Tag.method q) at e)
+    go true q Tag.inAlternative e = sym (rw (eqb-true t Tag.method q) at e)
 
-nodes-passed : (F i : ℕ) (p : Tag.Position) (rows : List Row) → firstNo (rowQuestions Tag.orderFollow 14 F i p rows) ≡ passed
+nodes-passed : (F i : ℕ) (p : Tag.Position) (rows : List Row) → firstNo (rowQuestions Tag.orderFollow (firstQuestionOf Of.Order) F i p rows) ≡ passed
     → positionAfter p rows .nodes ≡ p .nodes + length (parts (has Tag.node) rows)
 unfolding rowQuestions positionAfter parts Tag.advance
 nodes-passed F i p [] e = sym (add-zero (p .nodes))
@@ -157,30 +163,30 @@ nodes-passed F i p (r ∷ rows) e =
     count false false q = refl
 
 module _ (shop order : List ℕ) where
-  pub order-short : length order < 3 → firstNo (Order.orderQuestions shop order) ≡ refused ((11 asks false) .refusal)
+  pub order-short : length order < Order.sizeWords → firstNo (Order.orderQuestions shop order) ≡ refused ((11 asks false) .refusal)
   unfolding Order.orderQuestions firstNo
-  order-short h = rw (lt-leb 3 (length order) h)
+  order-short h = rw (lt-leb Order.sizeWords (length order) h)
 
-  order-sizes-same : Order.sizesInRange shop order ≡ orderSizes (getD shop 0 0) (getD order 0 0) (getD order 1 0) (getD order 2 0)
-  unfolding Order.sizesInRange orderSizes
-  order-sizes-same = refl
-
-  module _ (long : 3 ≤ length order) where
-    pub order-sizes-no : orderSizes (getD shop 0 0) (getD order 0 0) (getD order 1 0) (getD order 2 0) ≡ false
-        → firstNo (Order.orderQuestions shop order) ≡ refused ((12 asks false) .refusal)
+  module _ (long : Order.sizeWords ≤ length order) where
+    pub order-sizes-no : Order.sizesInRange shop order ≡ false → firstNo (Order.orderQuestions shop order) ≡ refused ((12 asks false) .refusal)
     unfolding Order.orderQuestions firstNo
-    order-sizes-no e = rw (le-leb 3 (length order) long, order-sizes-same ∙ e)
+    order-sizes-no e = rw (le-leb Order.sizeWords (length order) long, e)
 
-    module _ (sizes : orderSizes (getD shop 0 0) (getD order 0 0) (getD order 1 0) (getD order 2 0) ≡ true) where
-      pub order-length-no : length order ≢ 3 + 2 * getD order 2 0 → firstNo (Order.orderQuestions shop order) ≡ refused ((13 asks false) .refusal)
+    module _ (sizes : Order.sizesInRange shop order ≡ true) where
+      pub order-length-no : length order ≢ Order.sizeWords + 2 * Order.rowCount order
+          → firstNo (Order.orderQuestions shop order) ≡ refused ((13 asks false) .refusal)
       unfolding Order.orderQuestions firstNo
-      order-length-no e = rw (le-leb 3 (length order) long, order-sizes-same ∙ sizes, ne-eqb (length order) (3 + 2 * getD order 2 0) e)
+      order-length-no e = rw (le-leb Order.sizeWords (length order) long, sizes, ne-eqb (length order) (Order.sizeWords + 2 * Order.rowCount order) e)
 
-      pub order-rest : length order ≡ 3 + 2 * getD order 2 0
+      pub order-rest : length order ≡ Order.sizeWords + 2 * Order.rowCount order
           → firstNo (Order.orderQuestions shop order)
           ≡ firstNo (questionsOf Of.Order (Order.atomCount order) (Order.orderRows order) ++ Order.orderEndQuestions order)
       unfolding Order.orderQuestions firstNo
-      order-rest e = rw (le-leb 3 (length order) long, order-sizes-same ∙ sizes, eq-eqb (length order) (3 + 2 * getD order 2 0) e)
+      order-rest e = rw (le-leb Order.sizeWords (length order) long, sizes, eq-eqb (length order) (Order.sizeWords + 2 * Order.rowCount order) e)
+
+  pub order-rows-few : Order.sizesInRange shop order ≡ true → Order.rowCount order ≤ mostRows
+  unfolding Order.sizesInRange
+  order-rows-few e = let s = simp and-eq-true-iff at e in omega (arith, leb-true)
 
 -- What is asked of an order sheet after its rows, question by question.
 module _ (order : List ℕ) (s : Scan) (sc : Scanned Of.Order (Order.atomCount order) (Order.orderRows order) s) (z : s .refusal .number ≡ 0) where
@@ -189,10 +195,10 @@ module _ (order : List ℕ) (s : Scan) (sc : Scanned Of.Order (Order.atomCount o
   orderEnd = firstNo (questionsOf Of.Order (Order.atomCount order) (Order.orderRows order) ++ Order.orderEndQuestions order)
 
   order-follow : orderEnd ≡ firstNo (Order.orderEndQuestions order)
-  order-follow = told-on _ _ (refusalOf (s .refusal)) (sc .refusal) (rows-numbered Of.Order (Order.atomCount order) (Order.orderRows order)) z
+  order-follow = ends-follow Of.Order _ _ sc z _
 
   order-position : Tag.mayEnd (positionAfter Tag.opening (Order.orderRows order) .context) ≡ Tag.mayEnd (positionOf (s .position) .context)
-  order-position = ap (λ (p : Tag.Position). Tag.mayEnd (p .context)) (sym (sc .position z))
+  order-position = position-same Of.Order _ _ sc z
 
   goals-same : length (Order.order order .goals) ≡ s .position .nodes
   unfolding Order.order orderOf nodesOf
@@ -216,29 +222,26 @@ module _ (order : List ℕ) (s : Scan) (sc : Scanned Of.Order (Order.atomCount o
     order-end-passed e = order-follow ∙ rw (order-position ∙ ends, goals-same, eq-eqb (s .position .nodes) (Order.goalCount order) e)
 
 module _ (trace : List ℕ) where
-  pub trace-short : length trace < 1 → firstNo (Trace.traceQuestions trace) ≡ refused ((21 asks false) .refusal)
+  -- The length that question 23 asks for.
+  abbrev whole : ℕ
+  whole = Trace.sizeWords + 2 * Trace.stepCount trace
+
+  pub trace-short : length trace < Trace.sizeWords → firstNo (Trace.traceQuestions trace) ≡ refused ((21 asks false) .refusal)
   unfolding Trace.traceQuestions firstNo
-  trace-short h = rw (lt-leb 1 (length trace) h)
+  trace-short h = rw (lt-leb Trace.sizeWords (length trace) h)
 
-  module _ (long : 1 ≤ length trace) where
-    pub trace-steps-no : 4096 < getD trace 0 0 → firstNo (Trace.traceQuestions trace) ≡ refused ((22 asks false) .refusal)
+  module _ (long : Trace.sizeWords ≤ length trace) where
+    pub trace-steps-no : Trace.mostSteps < Trace.stepCount trace → firstNo (Trace.traceQuestions trace) ≡ refused ((22 asks false) .refusal)
     unfolding Trace.traceQuestions firstNo
-    trace-steps-no h = rw (le-leb 1 (length trace) long, lt-leb (getD trace 0 0) 4096 h)
+    trace-steps-no h = rw (le-leb Trace.sizeWords (length trace) long, lt-leb (Trace.stepCount trace) Trace.mostSteps h)
 
-    module _ (few : getD trace 0 0 ≤ 4096) where
-      pub trace-length-no : length trace ≢ 1 + 2 * getD trace 0 0 → firstNo (Trace.traceQuestions trace) ≡ refused ((23 asks false) .refusal)
+    module _ (few : Trace.stepCount trace ≤ Trace.mostSteps) where
+      pub trace-length-no : length trace ≢ whole → firstNo (Trace.traceQuestions trace) ≡ refused ((23 asks false) .refusal)
       unfolding Trace.traceQuestions firstNo
-      trace-length-no e = rw (le-leb 1 (length trace) long, le-leb (getD trace 0 0) 4096 few, ne-eqb (length trace) (1 + 2 * getD trace 0 0) e)
+      trace-length-no e =
+          rw (le-leb Trace.sizeWords (length trace) long, le-leb (Trace.stepCount trace) Trace.mostSteps few, ne-eqb (length trace) whole e)
 
-      pub trace-passed : length trace ≡ 1 + 2 * getD trace 0 0 → firstNo (Trace.traceQuestions trace) ≡ passed
+      pub trace-passed : length trace ≡ whole → firstNo (Trace.traceQuestions trace) ≡ passed
       unfolding Trace.traceQuestions firstNo
-      trace-passed e = rw (le-leb 1 (length trace) long, le-leb (getD trace 0 0) 4096 few, eq-eqb (length trace) (1 + 2 * getD trace 0 0) e)
-
--- Sizes in range leave at most 4,000 rows.
-pub shop-sizes-rows : (a k m n : ℕ) → shopSizes a k m n ≡ true → n ≤ 4000
-unfolding shopSizes
-shop-sizes-rows a k m n e = let s = simp and-eq-true-iff at e in omega (arith, leb-true)
-
-pub order-sizes-rows : (f a g n : ℕ) → orderSizes f a g n ≡ true → n ≤ 4000
-unfolding orderSizes
-order-sizes-rows f a g n e = let s = simp and-eq-true-iff at e in omega (arith, leb-true)
+      trace-passed e =
+          rw (le-leb Trace.sizeWords (length trace) long, le-leb (Trace.stepCount trace) Trace.mostSteps few, eq-eqb (length trace) whole e)

@@ -1,15 +1,11 @@
 -- What is asked of a sheet before and after its rows, as the checks' functions share it. Document 01, "Questions".
 use Prim.Native.Nat.{ℕ}
 use mathlib.Core.Path.{_≡_}
-use mathlib.Core.Bool.{Bool, _&&_}
+use mathlib.Core.Bool.{Bool}
 use mathlib.Core.List.{List, _++_}
-use lib.Dec.{eqb, leb}
 use Rattle.hgn.specs.Questions.{firstNo, told}
-use Rattle.hgn.specs.Rows.{mostRows}
-use Rattle.hgn.specs.State.{mostAtoms}
-use Rattle.hgn.specs.Network.{mostWaiting}
 use Rattle.hgn.specs.Shop as Shop
-use Rattle.hgn.specs.Shop.{mostActions, mostMethods, shopRows, shopEndQuestions}
+use Rattle.hgn.specs.Shop.{shopRows, shopEndQuestions}
 use Rattle.hgn.specs.Order as Order
 use Rattle.hgn.specs.Order.{orderRows, orderEndQuestions}
 use Rattle.reading.specs.Refusals.{refusalOf}
@@ -17,22 +13,23 @@ use Rattle.reading.specs.declared.position.Sheet.the-variants as Of
 use Rattle.reading.specs.declared.refusal.Refusal.{Refusal}
 use Rattle.scan.specs.Scanned.{Scanned, questionsOf}
 use Rattle.scan.specs.declared.rows.Scan.{Scan}
+use Rattle.sheets.specs.declared.sizes.ShopSizes.{ShopSizes}
+use Rattle.sheets.specs.declared.sizes.OrderSizes.{OrderSizes}
+use Rattle.sheets.specs.Sizes.{ShopSized, OrderSized}
 
--- The sizes of a shop sheet in range, and of an order sheet.
-unfoldable pub shopSizes : ℕ → ℕ → ℕ → ℕ → Bool
-shopSizes atoms actions methods rows =
-    leb 1 atoms && leb atoms mostAtoms && leb actions mostActions && leb methods mostMethods && leb rows mostRows
+-- The answer says whether the sizes of a sheet are in range, of every sheet that has these sizes.
+abbrev pub ShopInRange : ShopSizes → Bool → Type 0
+ShopInRange sizes r = (shop : List ℕ) → ShopSized shop sizes → r ≡ Shop.sizesInRange shop
 
-unfoldable pub orderSizes : ℕ → ℕ → ℕ → ℕ → Bool
-orderSizes shop-atoms atoms goals rows = eqb atoms shop-atoms && leb goals mostWaiting && leb rows mostRows
+abbrev pub OrderInRange : ShopSizes → OrderSizes → Bool → Type 0
+OrderInRange ofShop sizes r = (shop sheet : List ℕ) → ShopSized shop ofShop → OrderSized sheet sizes → r ≡ Order.sizesInRange shop sheet
 
--- Of any shop sheet of which the rows came to this scan: the first no from its rows on.
-abbrev pub ShopEnds : Scan → ℕ → ℕ → Refusal → Type 0
-ShopEnds s actions methods r = (shop : List ℕ) → Scanned Of.Shop (Shop.atomCount shop) (shopRows shop) s
-    → Shop.actionCount shop ≡ actions → Shop.methodCount shop ≡ methods
+-- Of any shop sheet of these sizes of which the rows came to this scan: the first no from its rows on.
+abbrev pub ShopEnds : Scan → ShopSizes → Refusal → Type 0
+ShopEnds s sizes r = (shop : List ℕ) → Scanned Of.Shop (Shop.atomCount shop) (shopRows shop) s → ShopSized shop sizes
     → refusalOf r ≡ told (firstNo (questionsOf Of.Shop (Shop.atomCount shop) (shopRows shop) ++ shopEndQuestions shop))
 
 -- The same of an order sheet.
-abbrev pub OrderEnds : Scan → ℕ → Refusal → Type 0
-OrderEnds s goals r = (sheet : List ℕ) → Scanned Of.Order (Order.atomCount sheet) (orderRows sheet) s → Order.goalCount sheet ≡ goals
+abbrev pub OrderEnds : Scan → OrderSizes → Refusal → Type 0
+OrderEnds s sizes r = (sheet : List ℕ) → Scanned Of.Order (Order.atomCount sheet) (orderRows sheet) s → OrderSized sheet sizes
     → refusalOf r ≡ told (firstNo (questionsOf Of.Order (Order.atomCount sheet) (orderRows sheet) ++ orderEndQuestions sheet))

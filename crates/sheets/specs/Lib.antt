@@ -1,3 +1,4 @@
 -- How the code's answers stand for the definitions of `hgn`, and what is promised of them.
+pub mod Sizes
 pub mod Answers
 pub mod Demands

@@ -1,16 +1,18 @@
 // The three checks: number and place of the first question that fails, or 0 and 0. Document 01, "Questions".
+use crate::sizes::OrderSizes;
+use crate::sizes::ShopSizes;
+use crate::sizes::TraceSizes;
 use reading::position::Sheet;
 use reading::refusal::Refusal;
 use scan::rows::Layout;
 use scan::rows::Scan;
-use scan::rows::word;
 ghost use mathlib.Core.Path.{_≡_};
 ghost use Rattle.hgn.specs.Shop.{checkShop};
 ghost use Rattle.hgn.specs.Order.{orderQuestions, checkOrder};
 ghost use Rattle.hgn.specs.Trace.{traceQuestions, checkTrace};
 ghost use Rattle.hgn.specs.Questions.{firstNo, told};
 ghost use Rattle.reading.specs.Refusals.{refusalOf};
-ghost use Rattle.sheets.specs.Answers.{shopSizes, orderSizes, ShopEnds, OrderEnds};
+ghost use Rattle.sheets.specs.Answers.{ShopInRange, OrderInRange, ShopEnds, OrderEnds};
 
 // What a shop sheet may hold.
 pub struct Shop;
@@ -47,40 +49,40 @@ impl Trace {
 }
 
 // F, K, M and N of a shop sheet are in range.
-fn shop_sizes(atoms: u16, actions: u16, methods: u16, rows: u16) -> bool
-    ensures { λ r. ⌜ r ≡ shopSizes atoms actions methods rows ⌝ }
+fn shop_in_range(sizes: ShopSizes) -> bool
+    ensures { λ r. ⌜ ShopInRange sizes r ⌝ }
 {
-    if atoms < 1 {
+    if sizes.atoms < 1 {
         return false;
     }
-    if Shop::MOST_ATOMS < atoms {
+    if Shop::MOST_ATOMS < sizes.atoms {
         return false;
     }
-    if Shop::MOST_ACTIONS < actions {
+    if Shop::MOST_ACTIONS < sizes.actions {
         return false;
     }
-    if Shop::MOST_METHODS < methods {
+    if Shop::MOST_METHODS < sizes.methods {
         return false;
     }
-    rows <= Layout::MOST_ROWS
+    sizes.rows <= Layout::MOST_ROWS
 }
 
 // F of an order sheet is the shop's, and G and N are in range.
-fn order_sizes(shop_atoms: u16, atoms: u16, goals: u16, rows: u16) -> bool
-    ensures { λ r. ⌜ r ≡ orderSizes «shop_atoms» atoms goals rows ⌝ }
+fn order_in_range(shop: ShopSizes, sizes: OrderSizes) -> bool
+    ensures { λ r. ⌜ OrderInRange shop sizes r ⌝ }
 {
-    if atoms == shop_atoms {
-        if Order::MOST_GOALS < goals {
+    if sizes.atoms == shop.atoms {
+        if Order::MOST_GOALS < sizes.goals {
             return false;
         }
-        return rows <= Layout::MOST_ROWS;
+        return sizes.rows <= Layout::MOST_ROWS;
     }
     false
 }
 
 // What is asked of a shop sheet after its rows.
-fn shop_end(scan: Scan, actions: u16, methods: u16) -> Refusal
-    ensures { λ r. ⌜ ShopEnds scan actions methods r ⌝ }
+fn shop_end(scan: Scan, sizes: ShopSizes) -> Refusal
+    ensures { λ r. ⌜ ShopEnds scan sizes r ⌝ }
 {
     let refusal = scan.refusal;
     if refusal.number == 0 {
@@ -88,8 +90,8 @@ fn shop_end(scan: Scan, actions: u16, methods: u16) -> Refusal
         let context = position.context;
         if context.may_end() {
             let tally = scan.tally;
-            if tally.actions == actions {
-                if tally.methods == methods {
+            if tally.actions == sizes.actions {
+                if tally.methods == sizes.methods {
                     let last = tally.closed();
                     if last.found {
                         let unplaced = Refusal::by(9);
@@ -107,15 +109,15 @@ fn shop_end(scan: Scan, actions: u16, methods: u16) -> Refusal
 }
 
 // What is asked of an order sheet after its rows.
-fn order_end(scan: Scan, goals: u16) -> Refusal
-    ensures { λ r. ⌜ OrderEnds scan goals r ⌝ }
+fn order_end(scan: Scan, sizes: OrderSizes) -> Refusal
+    ensures { λ r. ⌜ OrderEnds scan sizes r ⌝ }
 {
     let refusal = scan.refusal;
     if refusal.number == 0 {
         let position = scan.position;
         let context = position.context;
         if context.may_end() {
-            if position.nodes == goals {
+            if position.nodes == sizes.goals {
                 return Refusal::none();
             }
             return Refusal::by(18);
@@ -132,19 +134,12 @@ pub fn check_shop(shop: &[u16]) -> Refusal
     if shop.len() < Shop::SIZES {
         return Refusal::by(1);
     }
-    let atoms = shop[0];
-    let actions = shop[1];
-    let methods = shop[2];
-    let rows = shop[3];
-    if shop_sizes(atoms, actions, methods, rows) {
-        let count = rows as usize;
-        if shop.len() == Shop::SIZES + 2 * count {
-            let layout = Layout {
-                sizes: Shop::SIZES,
-                rows: count,
-            };
-            let scan = layout.scan(shop, Sheet::Shop, atoms);
-            return shop_end(scan, actions, methods);
+    let sizes = ShopSizes::of(shop);
+    if shop_in_range(sizes) {
+        let layout = sizes.layout();
+        if shop.len() == layout.sizes + 2 * layout.rows {
+            let scan = layout.scan(shop, Sheet::Shop, sizes.atoms);
+            return shop_end(scan, sizes);
         }
         return Refusal::by(3);
     }
@@ -158,19 +153,12 @@ fn ask_order(shop: &[u16], order: &[u16]) -> Refusal
     if order.len() < Order::SIZES {
         return Refusal::by(11);
     }
-    let shop_atoms = word(shop, 0);
-    let atoms = order[0];
-    let goals = order[1];
-    let rows = order[2];
-    if order_sizes(shop_atoms, atoms, goals, rows) {
-        let count = rows as usize;
-        if order.len() == Order::SIZES + 2 * count {
-            let layout = Layout {
-                sizes: Order::SIZES,
-                rows: count,
-            };
-            let scan = layout.scan(order, Sheet::Order, atoms);
-            return order_end(scan, goals);
+    let sizes = OrderSizes::of(order);
+    if order_in_range(ShopSizes::of(shop), sizes) {
+        let layout = sizes.layout();
+        if order.len() == layout.sizes + 2 * layout.rows {
+            let scan = layout.scan(order, Sheet::Order, sizes.atoms);
+            return order_end(scan, sizes);
         }
         return Refusal::by(13);
     }
@@ -184,12 +172,12 @@ fn ask_trace(trace: &[u16]) -> Refusal
     if trace.len() < Trace::SIZES {
         return Refusal::by(21);
     }
-    let steps = trace[0];
-    if Trace::MOST_STEPS < steps {
+    let sizes = TraceSizes::of(trace);
+    if Trace::MOST_STEPS < sizes.steps {
         return Refusal::by(22);
     }
-    let count = steps as usize;
-    if trace.len() == Trace::SIZES + 2 * count {
+    let steps = sizes.steps as usize;
+    if trace.len() == Trace::SIZES + 2 * steps {
         return Refusal::none();
     }
     Refusal::by(23)

@@ -1,13 +1,13 @@
 -- `replayed::write_state` is safe and ends: each turn goes on to a later atom. Assumes nothing.
-use Prim.Native.Nat.{_-_}
-use native.Mathlib.Omega.{arith}
+use Prim.Native.Nat.{suc, _-_, _≤_}
 use borrow.Author.Needs.{needs}
 use lib.ListN.{length}
+use Rattle.hgn.specs.State.{mostAtoms}
 use Rattle.cases.proofs.replayed.write_state.Statement.{statement}
 use Rattle.cases.proofs.replayed.write_state.Tie as tie
 
 abbrev Inv-loop : tie.InvT-loop
-Inv-loop atoms is-empty₀ at₀ is-empty at = Unit
+Inv-loop atoms is-empty₀ at₀ is-empty at = at ≤ suc mostAtoms
 
 abbrev μ-loop : tie.MeasureT-loop
 μ-loop atoms is-empty₀ at₀ is-empty at = length atoms - at
@@ -21,12 +21,12 @@ write-state-spec =
     (λ c. search needs)
     (λ c κs. search needs)
     (λ c. search needs)
+    (λ c. search needs)
     (λ c κs. search needs)
     (λ c. search needs)
     (λ c κs. search needs)
-    (λ c. omega (arith, c .before .before .before .end-of-atoms .ensures (c .before .before .before .before .loop-test .taken)))
     (λ c. search needs)
-    (λ c. omega (arith, c .before .before .end-of-atoms .ensures (c .before .before .before .loop-test .taken)))
+    (λ c. search needs)
     (λ c. search needs)
     (λ c κs. search needs)
     (λ c. search needs))

@@ -1,12 +1,15 @@
--- `stepping::write_steps` is safe and ends: at most 64 goals wait, and no more steps are counted than there are. Assumes nothing.
+-- `stepping::write_steps` is safe and ends: no more goals wait than may, and no more steps are counted than there are. Assumes nothing.
 use Prim.Native.Nat.{_-_, _≤_}
+use mir.Syntax.{w16}
+use mir.Val.{Fits}
 use borrow.Author.Needs.{needs}
+use Rattle.hgn.specs.Network.{mostWaiting}
 use Rattle.cases.proofs.stepping.write_steps.Statement.{statement}
 use Rattle.cases.proofs.stepping.write_steps.Tie as tie
 
 abbrev Inv-loop : tie.InvT-loop
 Inv-loop shop order trace tables steps problem₀ number₀ at₀ t14 problem number at =
-    (problem .waiting .count ≤ 64) × (number ≤ at) × (at ≤ steps) × (steps ≤ 65535)
+    (problem .waiting .count ≤ mostWaiting) × (number ≤ at) × (at ≤ steps) × Fits w16 steps
 
 abbrev μ-loop : tie.MeasureT-loop
 μ-loop shop order trace tables steps problem₀ number₀ at₀ t14 problem number at = steps - at

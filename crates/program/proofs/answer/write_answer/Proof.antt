@@ -4,6 +4,7 @@ use native.Mathlib.Omega.{arith}
 use mathlib.Core.Path.{ap}
 use borrow.Author.Needs.{needs}
 use lib.ListN.{length, length-take, length-replicate}
+use Rattle.hgn.specs.Trace.{mostSteps}
 use Rattle.program.specs.Texts.{printed}
 use Rattle.program.proofs.Answering.{text-is}
 use Rattle.program.proofs.answer.write_answer.Statement.{statement}
@@ -11,13 +12,25 @@ use Rattle.program.proofs.answer.write_answer.Tie as tie
 
 put-lines-requires : tie.Need-put-lines-requires
 put-lines-requires c κs =
-    let r = c .before .before .before .before .before .before .before .before .before .replay-bytes in
-    omega (arith, ap length (c .front-words .ensures), length-take (r .result .count) (r .last .1 .1 .1 .0), c .before .before .before .before .before .before .before .before .plan2 .given, length-replicate {A = ℕ} 4096 0, c .before .before .before .before .before .put-heading .ensures .0, c .before .before .before .before .room .given)
+    let h = c .before .before .before .before in
+    let p = h .before .before .before .before in
+    let r = p .before .replay-bytes in
+    omega (
+      arith,
+      ap length (c .front-words .ensures),
+      length-take (r .result .count) (r .last .1 .1 .1 .0),
+      p .plan2 .given,
+      length-replicate {A = ℕ} mostSteps 0,
+      h .before .put-heading .ensures .0,
+      h .room .given,
+    )
 
 returns : tie.Need-returns
 unfolding printed
 returns c =
-    text-is _ _ _ (c .before .before .before .before .before .before .before .before .before .before .before .before .replay-bytes .ensures) (c .before .before .before .before .before .before .before .before .put-heading .ensures .1) (c .before .before .before .front-words .ensures) (c .before .before .put-lines .ensures)
+    let f = c .before .before .before in
+    let h = f .before .before .before .before .before in
+    text-is _ _ _ (h .before .before .before .before .replay-bytes .ensures) (h .put-heading .ensures .1) (f .front-words .ensures) (c .before .before .put-lines .ensures)
 
 pub write-answer-spec : {M : Type 1} → statement M
 write-answer-spec =

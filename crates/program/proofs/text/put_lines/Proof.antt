@@ -27,6 +27,8 @@ put-lines-spec =
     (λ c. omega arith)
     (λ c. omega arith)
     (λ c.
-    lines-more _ _ _ _ _ _ _ _ (c .before .before .before .before .before .before .loop .inv) (c .before .before .before .before .before .loop-test .taken) (c .before .before .put .ensures .0) (c .before .text .given) (c .before .before .put .ensures .1))
+    let p = c .before .before in
+    let t = p .before .before .before in
+    lines-more _ _ _ _ _ _ _ _ (t .before .loop .inv) (t .loop-test .taken) (p .put .ensures .0) (c .before .text .given) (p .put .ensures .1))
     (λ c. c .before .loop .inv .same)
     (λ c. lines-all _ _ _ _ _ _ (c .before .loop .inv) (c .loop-test .left)))

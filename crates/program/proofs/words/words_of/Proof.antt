@@ -27,9 +27,16 @@ words-of-spec =
     (λ c. omega (arith, c .before .before .before .before .least .ensures))
     (λ c κs. search needs)
     (λ c. omega (arith, c .before .before .before .before .before .least .ensures))
-    (λ c. omega (arith, c .before .before .before .before .before .least .ensures, filling-length _ _ _ (c .before .before .before .before .before .least .ensures) _ _ (c .before .before .before .before .loop .inv)))
+    (λ c.
+    let l = c .before .before .before .before in
+    omega (arith, l .before .least .ensures, filling-length _ _ _ (l .before .least .ensures) _ _ (l .loop .inv)))
     (λ c. omega (arith, c .before .before .before .before .before .least .ensures))
     (λ c. omega arith)
-    (λ c. filling-more _ _ _ (c .before .before .before .before .before .least .ensures) _ _ _ (c .before .before .before .before .loop .inv) (c .before .before .before .loop-test .taken) (c .word .ensures))
+    (λ c.
+    let t = c .before .before .before in
+    filling-more _ _ _ (t .before .before .least .ensures) _ _ _ (t .before .loop .inv) (t .loop-test .taken) (c .word .ensures))
     (λ c. filling-length _ _ _ (c .before .before .least .ensures) _ _ (c .before .loop .inv))
-    (λ c. (filled-count (c .before .before .before .before .before .args .bytes .now) (c .before .before .before .before .before .args .words .now) _ (c .before .before .least .ensures), filled _ _ _ (c .before .before .least .ensures) _ _ (c .before .loop .inv) (c .loop-test .left))))
+    (λ c.
+    let n = c .before .before .least .ensures in
+    let args = c .before .before .before .before .before .args in
+    (filled-count (args .bytes .now) (args .words .now) _ n, filled _ _ _ n _ _ (c .before .loop .inv) (c .loop-test .left))))

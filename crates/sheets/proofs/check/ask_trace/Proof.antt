@@ -1,4 +1,5 @@
 -- The questions are the definition's, in its order. Assumes nothing.
+use native.Mathlib.Omega.{arith}
 use mathlib.Core.Path.{sym, ap, _∙_}
 use borrow.Author.Needs.{needs}
 use Rattle.hgn.specs.Questions.{told}
@@ -12,13 +13,14 @@ ask-trace-spec =
     (tie.spec
     (λ c κs. search needs)
     (λ c. c .by .ensures ∙ ap told (sym (trace-short _ (c .before .if1 .taken))))
+    (λ c κs. search needs)
+    (λ c κs. search needs)
+    (λ c. c .by2 .ensures ∙ ap told (sym (trace-steps-no _ (c .before .before .before .before .if1 .left) (omega arith))))
+    (λ c. search needs)
+    (λ c. search needs)
     (λ c. search needs)
     (λ c κs. search needs)
-    (λ c. c .by2 .ensures ∙ ap told (sym (trace-steps-no _ (c .before .before .before .if1 .left) (c .before .if2 .taken))))
-    (λ c. search needs)
-    (λ c. search needs)
-    (λ c. search needs)
+    (λ c. c .none .ensures ∙ ap told (sym (trace-passed _ (c .before .before .before .before .before .before .if1 .left) (omega arith) (omega arith))))
     (λ c κs. search needs)
-    (λ c. c .none .ensures ∙ ap told (sym (trace-passed _ (c .before .before .before .before .if1 .left) (c .before .before .if2 .left) (c .before .if3 .taken))))
-    (λ c κs. search needs)
-    (λ c. c .by3 .ensures ∙ ap told (sym (trace-length-no _ (c .before .before .before .before .if1 .left) (c .before .before .if2 .left) (c .before .if3 .left)))))
+    (λ c. c .by3 .ensures ∙ ap told (sym (trace-length-no _ (c .before .before .before .before .before .before .if1 .left) (omega arith)
+    (λ e. c .before .if3 .left (omega arith))))))

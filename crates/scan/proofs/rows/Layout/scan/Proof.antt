@@ -1,17 +1,16 @@
 -- Before each row the rows passed have led to the position and the counts at hand (`Going`). Assumes nothing.
 use Prim.Native.Nat.{_≤_, _-_}
 use native.Mathlib.Omega.{arith}
-use mathlib.Core.Path.{sym, ap, ap₂, _∙_}
+use mathlib.Core.Path.{sym, ap, _∙_}
 use borrow.Author.Needs.{needs}
-use Rattle.hgn.specs.Rows.{row, rowsOf}
+use Rattle.hgn.specs.Rows.{rowsOf}
 use Rattle.hgn.specs.Questions.{Refusal, told}
 use Rattle.reading.specs.Reading.{contextOf, positionOf, readingOf}
 use Rattle.reading.proofs.Laws.{same-next}
 use Rattle.reading.proofs.Laws as Laws
 use Rattle.reading.proofs.Groups.{going-on-passes}
 use Rattle.scan.proofs.GoneOn.{going-on-counts}
-use Rattle.scan.proofs.Lookup.{rows-length, rows-at}
-use Rattle.scan.proofs.Scans.{Going, going-start, going-next, going-refused, going-end}
+use Rattle.scan.proofs.Scans.{Going, going-start, read-next, read-refused, read-end}
 use Rattle.scan.proofs.Counts.{within-small}
 use Rattle.scan.proofs.rows.Layout.scan.Statement.{statement}
 use Rattle.scan.proofs.rows.Layout.scan.Tie as tie
@@ -58,18 +57,16 @@ loop-less c = omega arith
 
 loop-again : tie.Need-loop-again Inv-loop μ-loop
 loop-again c =
-    let b = c .before .before .before .before .before .before in
+    let v = c .before .before .before .before in
+    let b = v .before .before in
     let a = b .before .before .before .before .before .args in
-    let f = b .before .before .before .before .before .pre .0 in
-    let p = b .before .loop .position in (
+    let p = b .before .loop .position in
+    let on = Laws.told (c .before .before .before .goes-on .ensures) (c .before .before .if1 .taken) in (
       omega arith,
-      going-next (a .sheet) (a .atoms) (rowsOf (a .self .sizes) (a .self .rows) (a .words .now)) (b .before .loop .i) p (b .before .loop .tally)
-          (b .before .loop .inv .1) (rw (rows-length (a .self .sizes) (a .self .rows) (a .words .now) f) (b .loop-test .taken))
-          _ _ (rows-at (a .self .sizes) (a .self .rows) (a .words .now) f (b .before .loop .i) (b .loop-test .taken)
-          ∙ ap₂ row (sym (c .before .before .before .before .before .tag .ensures)) (sym (c .before .before .before .before .value .ensures)))
-          _ _ (same-next (c .above .ensures)
-          ∙ going-on-passes (a .atoms) (p .least) (p .nodes) _ (a .sheet) (contextOf (p .context)) _ (Laws.told (c .before .before .before .goes-on .ensures) (c .before .before .if1 .taken)))
-          (c .before .gone-on .ensures ∙ going-on-counts (a .atoms) (p .least) (p .nodes) _ _ (contextOf (p .context)) _ (Laws.told (c .before .before .before .goes-on .ensures) (c .before .before .if1 .taken))),
+      read-next (a .sheet) (a .atoms) (a .self .sizes) (a .self .rows) (a .words .now) (b .before .before .before .before .before .pre .0) (b .before .loop .inv .1)
+          (b .loop-test .taken) (v .before .tag .ensures) (v .value .ensures)
+          (same-next (c .above .ensures) ∙ going-on-passes (a .atoms) (p .least) (p .nodes) _ (a .sheet) (contextOf (p .context)) _ on)
+          (c .before .gone-on .ensures ∙ going-on-counts (a .atoms) (p .least) (p .nodes) _ _ (contextOf (p .context)) _ on),
     )
 
 counted-requires : tie.Need-counted-requires Inv-loop μ-loop
@@ -86,15 +83,13 @@ loop-less-2 c = omega arith
 
 loop-again-2 : tie.Need-loop-again-2 Inv-loop μ-loop
 loop-again-2 c =
-    let b = c .before .before .before .before .before .before .before .before .before in
-    let a = b .before .before .before .before .before .args in
-    let f = b .before .before .before .before .before .pre .0 in (
+    let v = c .before .before .before .before .before .before .before in
+    let b = v .before .before in
+    let a = b .before .before .before .before .before .args in (
       omega arith,
-      going-next (a .sheet) (a .atoms) (rowsOf (a .self .sizes) (a .self .rows) (a .words .now)) (b .before .loop .i) (b .before .loop .position) (b .before .loop .tally)
-          (b .before .loop .inv .1) (rw (rows-length (a .self .sizes) (a .self .rows) (a .words .now) f) (b .loop-test .taken))
-          _ _ (rows-at (a .self .sizes) (a .self .rows) (a .words .now) f (b .before .loop .i) (b .loop-test .taken)
-          ∙ ap₂ row (sym (c .before .before .before .before .before .before .before .before .tag .ensures)) (sym (c .before .before .before .before .before .before .before .value .ensures)))
-          _ _ (ap readingOf (sym (c .before .reading .given .1)) ∙ c .before .before .before .read .ensures) (c .before .before .before .before .counted .ensures),
+      read-next (a .sheet) (a .atoms) (a .self .sizes) (a .self .rows) (a .words .now) (b .before .before .before .before .before .pre .0) (b .before .loop .inv .1)
+          (b .loop-test .taken) (v .before .tag .ensures) (v .value .ensures)
+          (ap readingOf (sym (c .before .reading .given .1)) ∙ c .before .before .before .read .ensures) (c .before .before .before .before .counted .ensures),
     )
 
 enum-known-reading-2 : tie.Need-enum-known-reading-2 Inv-loop μ-loop
@@ -109,14 +104,12 @@ passed-requires c κs = search needs
 returns : tie.Need-returns Inv-loop μ-loop
 returns c =
     let k = c .before in
-    let b = k .before .before .before .before .before .before .before .before .before in
+    let v = k .before .before .before .before .before .before .before in
+    let b = v .before .before in
     let a = b .before .before .before .before .before .args in
-    let f = b .before .before .before .before .before .pre .0 in
-    let r = going-refused (a .sheet) (a .atoms) (rowsOf (a .self .sizes) (a .self .rows) (a .words .now)) (b .before .loop .i) (b .before .loop .position) (b .before .loop .tally)
-    (b .before .loop .inv .1) (rw (rows-length (a .self .sizes) (a .self .rows) (a .words .now) f) (b .loop-test .taken))
-    _ _ (rows-at (a .self .sizes) (a .self .rows) (a .words .now) f (b .before .loop .i) (b .loop-test .taken)
-    ∙ ap₂ row (sym (k .before .before .before .before .before .before .before .before .tag .ensures)) (sym (k .before .before .before .before .before .before .before .value .ensures)))
-    (k .before .reading2 .given .0 .0) (ap readingOf (sym (k .before .reading2 .given .1)) ∙ k .before .before .before .read .ensures) in
+    let r = read-refused (a .sheet) (a .atoms) (a .self .sizes) (a .self .rows) (a .words .now) (b .before .before .before .before .before .pre .0) (b .before .loop .inv .1)
+    (b .loop-test .taken) (v .before .tag .ensures) (v .value .ensures) (k .before .reading2 .given .0 .0)
+    (ap readingOf (sym (k .before .reading2 .given .1)) ∙ k .before .before .before .read .ensures) in
     let number = ap (λ (q : Refusal). q .number) (c .refused .ensures) in
     record {
       refusal = c .refused .ensures ∙ sym (ap told (r .0));
@@ -127,10 +120,9 @@ returns c =
 returns-2 : tie.Need-returns-2 Inv-loop μ-loop
 returns-2 c =
     let k = c .before in
-    let a = k .before .before .before .before .before .args in
-    let f = k .before .before .before .before .before .pre .0 in
-    let r = going-end (a .sheet) (a .atoms) (rowsOf (a .self .sizes) (a .self .rows) (a .words .now)) _ _ _ (k .before .loop .inv .1)
-    (rw (rows-length (a .self .sizes) (a .self .rows) (a .words .now) f) (k .loop-test .left)) in
+    let s = k .before .before .before .before .before in
+    let a = s .args in
+    let r = read-end (a .sheet) (a .atoms) (a .self .sizes) (a .self .rows) (a .words .now) (s .pre .0) (k .before .loop .inv .1) (k .loop-test .left) in
     record {
       refusal = c .passed .ensures .0 ∙ sym (ap told (r .0));
       position = λ e. ap positionOf (c .passed .ensures .1) ∙ r .1;

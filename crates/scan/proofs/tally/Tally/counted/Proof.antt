@@ -5,7 +5,7 @@ use native.Mathlib.Omega.{arith}
 use borrow.Author.Needs.{needs}
 use borrow.Author.Tests.{ne-eqb}
 use Rattle.scan.specs.Tally.{Small, withAction, withMethod, withCounts, counted}
-use Rattle.scan.proofs.Counts.{within-closed}
+use Rattle.scan.proofs.Counts.{each-closed}
 use Rattle.scan.proofs.tally.Tally.counted.Statement.{statement}
 use Rattle.scan.proofs.tally.Tally.counted.Tie as tie
 
@@ -14,7 +14,7 @@ closed-requires c κs = search needs
 
 add-t : tie.Need-add-t
 add-t c =
-    let small = subst Small (sym (c .before .closed .ensures)) (within-closed _ _ (c .before .before .before .pre)) in
+    let small = subst Small (sym (c .before .closed .ensures)) (each-closed _ _ (c .before .before .before .pre)) in
     omega arith
 
 returns : tie.Need-returns
@@ -26,7 +26,7 @@ closed-requires-2 c κs = search needs
 
 add-t-2 : tie.Need-add-t-2
 add-t-2 c =
-    let small = subst Small (sym (c .before .closed2 .ensures)) (within-closed _ _ (c .before .before .before .before .pre)) in
+    let small = subst Small (sym (c .before .closed2 .ensures)) (each-closed _ _ (c .before .before .before .before .pre)) in
     omega arith
 
 returns-2 : tie.Need-returns-2
