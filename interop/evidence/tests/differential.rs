@@ -9,7 +9,7 @@ use evidence::generate::{self, Size};
 use evidence::random::Random;
 use evidence::walk::{self, Habit};
 use evidence::{damage, runner};
-use plain::{MAX_GOALS, MAX_ROWS, MAX_STEPS, METHOD_0, Network, Run};
+use plain::{MAX_GOALS, MAX_ROWS, MAX_STEPS, METHOD_0, Network, Rules, Run};
 
 /// The numbers a replay can end with; 27 never comes, as the goal at place 0 is
 /// always free.
@@ -68,7 +68,7 @@ impl Domain {
 
     fn run(&self) -> Run<'_> {
         let start = self.order.start;
-        Run::start(&self.shop, &self.order, start, MAX_GOALS).expect("at most 64 goals")
+        Run::start(Rules::CALLS, &self.shop, &self.order, start).expect("at most 64 goals")
     }
 
     fn finished_walk(&self, random: &mut Random, most: usize) -> Vec<Step> {
