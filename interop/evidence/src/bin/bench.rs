@@ -14,6 +14,8 @@ use evidence::inputs::{self, Check, Replay, Search};
 use plain::{Budget, Stopped};
 
 const ROUNDS: usize = 30;
+/// No round begins later than this.
+const ROUNDS_END: Duration = Duration::from_secs(10);
 /// Short, so that on a busy machine some batches run undisturbed.
 const BATCH: Duration = Duration::from_millis(1);
 /// How long a search is waited for.
@@ -85,7 +87,11 @@ fn batch(call: &mut dyn FnMut(), calls: u32) -> f64 {
 fn measure<const N: usize>(mut calls: [&mut dyn FnMut(); N]) -> [Time; N] {
     let counts = calls.each_mut().map(|call| calls_a_batch(call));
     let mut smallest = [f64::INFINITY; N];
-    for _ in 0..ROUNDS {
+    let start = Instant::now();
+    for round in 0..ROUNDS {
+        if round > 0 && start.elapsed() > ROUNDS_END {
+            break;
+        }
         for (n, call) in calls.iter_mut().enumerate() {
             smallest[n] = smallest[n].min(batch(call, counts[n]));
         }
@@ -248,8 +254,8 @@ fn bench_search(input: &Search) {
         let found = plain::search(black_box(shop), black_box(order), *depth, room);
         let _ = black_box(found);
     };
-    // Slow ones are not repeated: noise is small beside them.
-    let quick = |time: Time| time.seconds() < 0.5;
+    // Those that take seconds are not repeated.
+    let quick = |time: Time| time.seconds() < 2.0;
     match (quick(proved), quick(plain)) {
         (true, true) => [proved, plain] = measure([&mut proved_call, &mut plain_call]),
         (true, false) => [proved] = measure([&mut proved_call]),
