@@ -1,5 +1,7 @@
 //! One input asked of both sides, and every word of the answers compared.
 
+use std::collections::BTreeMap;
+
 use liropuva::{Answer, ReplayAnswer};
 use plain::{Atoms, Budget, Refusal, Stopped};
 
@@ -33,65 +35,74 @@ impl Lent {
     }
 }
 
-/// How often each number was answered by replays, searches and checks.
-#[derive(Clone, Debug)]
+/// How often each number was answered.
+#[derive(Clone, Debug, Default)]
+pub struct Counts(BTreeMap<u32, u64>);
+
+impl Counts {
+    pub fn of(&self, number: u32) -> u64 {
+        self.0.get(&number).copied().unwrap_or(0)
+    }
+
+    /// The numbers that were answered at all.
+    pub fn numbers(&self) -> impl Iterator<Item = u32> {
+        self.0.keys().copied()
+    }
+
+    fn count(&mut self, number: u32, times: u64) {
+        *self.0.entry(number).or_default() += times;
+    }
+
+    fn add(&mut self, other: &Counts) {
+        for (&number, &times) in &other.0 {
+            self.count(number, times);
+        }
+    }
+
+    fn total(&self) -> u64 {
+        self.0.values().sum()
+    }
+}
+
+/// What the compared calls answered.
+#[derive(Clone, Debug, Default)]
 pub struct Tally {
-    pub replays: [u64; Tally::NUMBERS],
-    pub searches: [u64; Tally::NUMBERS],
-    pub checks: [u64; Tally::NUMBERS],
+    pub replays: Counts,
+    pub searches: Counts,
+    pub checks: Counts,
     /// How often a search found a trace of so many steps.
-    pub found_steps: [u64; Tally::DEPTHS],
+    pub found_steps: Counts,
     /// How often a trace of 4,096 steps was accepted.
     pub full_traces: u64,
 }
 
-impl Default for Tally {
-    fn default() -> Tally {
-        Tally {
-            replays: [0; Tally::NUMBERS],
-            searches: [0; Tally::NUMBERS],
-            checks: [0; Tally::NUMBERS],
-            found_steps: [0; Tally::DEPTHS],
-            full_traces: 0,
-        }
-    }
-}
-
 impl Tally {
-    /// The numbers of document 01 end at 43.
-    pub const NUMBERS: usize = 44;
-    const DEPTHS: usize = plain::MAX_DEPTH as usize + 1;
-
     pub fn add(&mut self, other: &Tally) {
-        add_each(&mut self.replays, &other.replays);
-        add_each(&mut self.searches, &other.searches);
-        add_each(&mut self.checks, &other.checks);
-        add_each(&mut self.found_steps, &other.found_steps);
+        self.replays.add(&other.replays);
+        self.searches.add(&other.searches);
+        self.checks.add(&other.checks);
+        self.found_steps.add(&other.found_steps);
         self.full_traces += other.full_traces;
     }
 
     pub fn print(&self) {
-        println!("number    replays   searches     checks");
-        for number in 0..Tally::NUMBERS {
-            let counts = [&self.replays, &self.searches, &self.checks].map(|c| c[number]);
-            if counts != [0; 3] {
-                let [replays, searches, checks] = counts;
-                println!("{number:>6} {replays:>10} {searches:>10} {checks:>10}");
-            }
+        let calls = [&self.replays, &self.searches, &self.checks];
+        let mut all = Counts::default();
+        for counts in calls {
+            all.add(counts);
         }
-        let [replays, searches, checks] =
-            [&self.replays, &self.searches, &self.checks].map(|c| c.iter().sum::<u64>());
+        println!("number    replays   searches     checks");
+        for number in all.numbers() {
+            let [replays, searches, checks] = calls.map(|counts| counts.of(number));
+            println!("{number:>6} {replays:>10} {searches:>10} {checks:>10}");
+        }
+        let [replays, searches, checks] = calls.map(Counts::total);
         println!(" total {replays:>10} {searches:>10} {checks:>10}");
-        let depths = (0..).zip(self.found_steps);
-        let found: Vec<(usize, u64)> = depths.filter(|&(_, count)| count > 0).collect();
-        println!("steps of the traces found, and how often: {found:?}");
+        println!(
+            "steps of the traces found, and how often: {:?}",
+            self.found_steps.0
+        );
         println!("accepted traces of 4,096 steps: {}", self.full_traces);
-    }
-}
-
-fn add_each(mine: &mut [u64], others: &[u64]) {
-    for (mine, other) in mine.iter_mut().zip(others) {
-        *mine += other;
     }
 }
 
@@ -128,7 +139,7 @@ pub fn checks(tally: &mut Tally, shop: &[u16], order: &[u16], trace: &[u16]) {
             answer(plain),
             "check: proved (left), plain (right)\nshop {shop:?}\norder {order:?}\ntrace {trace:?}"
         );
-        tally.checks[proved.number as usize] += 1;
+        tally.checks.count(proved.number, 1);
     }
 }
 
@@ -190,7 +201,7 @@ pub fn replay(
         "replay: words beyond the plan were written\n{}",
         input()
     );
-    tally.replays[proved.number as usize] += 1;
+    tally.replays.count(proved.number, 1);
     if proved.number == 0 && proved.place == u32::from(plain::MAX_STEPS) {
         tally.full_traces += 1;
     }
@@ -237,7 +248,7 @@ pub fn search(
     );
     let written = match proved.number {
         0 => {
-            tally.found_steps[proved.place as usize] += 1;
+            tally.found_steps.count(proved.place, 1);
             1 + 2 * proved.place as usize
         }
         _ => 0,
@@ -247,6 +258,6 @@ pub fn search(
         "search: words beyond the trace were written\n{}",
         input()
     );
-    tally.searches[proved.number as usize] += 1;
+    tally.searches.count(proved.number, 1);
     Some(proved)
 }

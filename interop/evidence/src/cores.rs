@@ -13,13 +13,6 @@ fn action(cost: u16, need: Option<u16>, effects: &[(u16, bool)]) -> Action {
     }
 }
 
-fn wanting(atom: u16, after: &[u16]) -> Node {
-    Node {
-        after: after.to_vec(),
-        alternatives: vec![vec![(atom, true)]],
-    }
-}
-
 /// A shop for this many cores, each with four atoms, four actions and a method
 /// of its own. With one core it is document 01's.
 pub fn shop(cores: u16) -> Shop {
@@ -39,12 +32,47 @@ pub fn shop(cores: u16) -> Shop {
         shop.methods.push(Method {
             needs: Vec::new(),
             nodes: vec![
-                wanting(at_bark, &[]),
-                wanting(bark, &[0]),
-                wanting(at_pith, &[1]),
-                wanting(pith, &[]),
+                Node::wanting(&[at_bark], &[]),
+                Node::wanting(&[bark], &[0]),
+                Node::wanting(&[at_pith], &[1]),
+                Node::wanting(&[pith], &[]),
             ],
         });
+    }
+    shop
+}
+
+/// The cores of one stage, which holds one core at a time: to clamp a core takes
+/// every other off the clamp.
+pub fn on_one_stage(mut shop: Shop) -> Shop {
+    let clamped: Vec<u16> = (0..shop.atoms).step_by(2).collect();
+    for action in &mut shop.actions {
+        if let Some(&(own, _)) = action
+            .effects
+            .iter()
+            .find(|e| e.1 && clamped.contains(&e.0))
+        {
+            action.effects = clamped.iter().map(|&atom| (atom, atom == own)).collect();
+        }
+    }
+    shop
+}
+
+/// Each core's method twice over: no method is the only one that brings in a
+/// goal.
+pub fn with_two_methods(mut shop: Shop) -> Shop {
+    let twice = |method: Method| [method.clone(), method];
+    shop.methods = shop.methods.into_iter().flat_map(twice).collect();
+    shop
+}
+
+/// A second action that clamps at the bark for each core, dearer than the first:
+/// no action is the only one that makes a core clamped there.
+pub fn with_two_clamps(mut shop: Shop) -> Shop {
+    for clamp in (0..shop.actions.len()).step_by(4) {
+        let mut second = shop.actions[clamp].clone();
+        second.cost += 1;
+        shop.actions.push(second);
     }
     shop
 }
@@ -62,7 +90,7 @@ pub fn order(cores: u16, chained: bool) -> Order {
                 } else {
                     &[]
                 };
-                wanting(4 * core + 3, before)
+                Node::wanting(&[4 * core + 3], before)
             })
             .collect(),
     }

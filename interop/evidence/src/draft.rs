@@ -65,6 +65,14 @@ pub struct Node {
 }
 
 impl Node {
+    /// One alternative, which wants these atoms true; after these nodes.
+    pub fn wanting(atoms: &[u16], after: &[u16]) -> Node {
+        Node {
+            after: after.to_vec(),
+            alternatives: vec![atoms.iter().map(|&atom| (atom, true)).collect()],
+        }
+    }
+
     fn rows(&self, rows: &mut Vec<Row>) {
         rows.push((tag::NODE, 0));
         rows.extend(self.after.iter().map(|&node| (tag::AFTER, node)));

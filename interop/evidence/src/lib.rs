@@ -8,6 +8,7 @@ pub mod cores;
 pub mod damage;
 pub mod draft;
 pub mod generate;
+pub mod inputs;
 pub mod random;
 pub mod runner;
 pub mod walk;

@@ -23,12 +23,12 @@ pub fn rounds() -> u64 {
 }
 
 /// Prints the seed when its case panics.
-struct NameSeed {
-    name: &'static str,
+struct NameSeed<'a> {
+    name: &'a str,
     seed: u64,
 }
 
-impl Drop for NameSeed {
+impl Drop for NameSeed<'_> {
     fn drop(&mut self) {
         if thread::panicking() {
             eprintln!(
@@ -41,7 +41,7 @@ impl Drop for NameSeed {
 
 /// Runs `case` with the seeds from `first_seed` on, `cases` of them a round.
 pub fn run_cases(
-    name: &'static str,
+    name: &str,
     first_seed: u64,
     cases: u64,
     case: fn(&mut Random, &mut Tally),
@@ -52,7 +52,7 @@ pub fn run_cases(
         None => (first_seed, cases * rounds()),
     };
     let threads = thread::available_parallelism().map_or(2, |n| n.get() as u64);
-    let work = move |thread: u64| {
+    let work = |thread: u64| {
         let mut tally = Tally::default();
         for number in (thread..cases).step_by(threads as usize) {
             let seed = first_seed + number;
@@ -61,17 +61,16 @@ pub fn run_cases(
         }
         tally
     };
-    let workers: Vec<_> = (0..threads)
-        .map(|thread| thread::spawn(move || work(thread)))
-        .collect();
     let mut tally = Tally::default();
-    for worker in workers {
-        tally.add(
-            &worker
-                .join()
-                .expect("a case failed; its seed is named above"),
-        );
-    }
+    thread::scope(|scope| {
+        let workers: Vec<_> = (0..threads)
+            .map(|thread| scope.spawn(move || work(thread)))
+            .collect();
+        for worker in workers {
+            let done = worker.join();
+            tally.add(&done.expect("a case failed; its seed is named above"));
+        }
+    });
     tally
 }
 

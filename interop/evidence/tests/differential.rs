@@ -1,23 +1,21 @@
-//! The proved library against the plain model on generated inputs.
+//! The proved library against the plain model on generated inputs: a test for
+//! each group of cases.
 //!
 //! `LIROPUVA_ROUNDS=10` runs ten times as many cases; `LIROPUVA_SEED=n` runs
 //! the one case with that seed.
 
-use evidence::compare::{self, Tally};
+use evidence::compare::{self, Counts, Tally};
 use evidence::draft::{Order, Shop, Step, trace_words};
 use evidence::generate::{self, Size};
 use evidence::random::Random;
 use evidence::walk::{self, Habit};
 use evidence::{damage, runner};
-use plain::{MAX_GOALS, MAX_ROWS, MAX_STEPS, METHOD_0, Network, Run};
+use liropuva::{QUESTIONS, Subject};
+use plain::{MAX_GOALS, MAX_ROWS, MAX_STEPS, METHOD_0, Network, Rules, Run};
 
-/// The numbers a replay can end with; 27 never comes, as the goal at place 0 is
-/// always free.
-const REPLAY_NUMBERS: [usize; 29] = [
-    1, 2, 3, 4, 5, 6, 7, 8, 9, 11, 12, 13, 14, 15, 16, 17, 18, 21, 22, 23, 24, 25, 26, 28, 29, 30,
-    31, 32, 33,
-];
-const SEARCH_NUMBERS: [usize; 3] = [41, 42, 43];
+/// The question that no input fails: the goal at place 0 is always free.
+const NEVER_TOLD: u32 = 27;
+/// How often a group answers each number that it must reach.
 const LEAST_EACH: u64 = 100;
 
 /// A plain search that tries more steps than this is not compared.
@@ -68,7 +66,7 @@ impl Domain {
 
     fn run(&self) -> Run<'_> {
         let start = self.order.start;
-        Run::start(&self.shop, &self.order, start, MAX_GOALS).expect("at most 64 goals")
+        Run::start(Rules::CALLS, &self.shop, &self.order, start).expect("at most 64 goals")
     }
 
     fn finished_walk(&self, random: &mut Random, most: usize) -> Vec<Step> {
@@ -404,48 +402,119 @@ fn large_search_case(random: &mut Random, tally: &mut Tally) {
     compare::search(tally, random, (&shop, &order), depth, room, STEPS_TRIED);
 }
 
-/// A name, the number of cases a round, and the case.
-type Group = (&'static str, u64, fn(&mut Random, &mut Tally));
+/// The groups of cases. A group's seeds follow from its place here.
+#[derive(Clone, Copy, Debug, PartialEq, Eq)]
+enum Group {
+    Traces,
+    Damage,
+    Limits,
+    LongTraces,
+    Searches,
+    LargeSearches,
+    DeepSearches,
+    NaiveSearches,
+}
+
+/// The group that must reach each question of a subject: replays all but a
+/// search's own, searches those.
+fn reached_by(subject: Subject) -> Group {
+    match subject {
+        Subject::Shop | Subject::Order | Subject::Trace => Group::Damage,
+        Subject::Replay => Group::Traces,
+        Subject::Search => Group::Searches,
+    }
+}
+
+/// Runs a group. Fails where a call told a number that it does not ask, or where
+/// the group did not reach what it must; of a single seed that says nothing.
+fn run(group: Group, cases: u64, case: fn(&mut Random, &mut Tally)) -> Tally {
+    let start = std::time::Instant::now();
+    let first_seed = (group as u64 + 1) * runner::SEEDS_A_GROUP;
+    let tally = runner::run_cases(&format!("{group:?}"), first_seed, cases, case);
+    println!("{group:?}: {cases} cases a round, {:.1?}", start.elapsed());
+    tally.print();
+    use Subject::{Order, Replay, Search, Shop, Trace};
+    assert_asked(&tally.replays, &[Shop, Order, Trace, Replay]);
+    assert_asked(&tally.searches, &[Shop, Order, Search]);
+    assert_asked(&tally.checks, &[Shop, Order, Trace]);
+    for question in QUESTIONS {
+        if reached_by(question.subject) == group && question.number != NEVER_TOLD {
+            let counts = match question.subject {
+                Search => &tally.searches,
+                _ => &tally.replays,
+            };
+            assert_at_least(
+                &format!("{question:?}"),
+                counts.of(question.number),
+                LEAST_EACH,
+            );
+        }
+    }
+    tally
+}
+
+/// All numbers told but 0 are of questions about these subjects.
+fn assert_asked(counts: &Counts, subjects: &[Subject]) {
+    for number in counts.numbers().filter(|&number| number != 0) {
+        let question = QUESTIONS.iter().find(|asked| asked.number == number);
+        let asked = question.is_some_and(|asked| subjects.contains(&asked.subject));
+        assert!(asked && number != NEVER_TOLD, "{number} was told");
+    }
+}
+
+fn assert_at_least(what: &str, count: u64, least: u64) {
+    assert!(
+        runner::single_seed() || count >= least,
+        "{what} came {count} times only"
+    );
+}
 
 #[test]
-fn both_sides_agree() {
-    let mut tally = Tally::default();
-    let groups: [Group; 8] = [
-        ("traces", 14_000, traces_case),
-        ("damage", 4_000, damage_case),
-        ("limits", 600, limits_case),
-        ("long traces", 300, long_case),
-        ("searches", 6_000, search_case),
-        ("large searches", 100, large_search_case),
-        ("deep searches", 10_000, deep_search_case),
-        ("naive searches", 2_000, naive_search_case),
-    ];
-    for (number, (name, cases, case)) in (1..).zip(groups) {
-        let start = std::time::Instant::now();
-        let first_seed = number * runner::SEEDS_A_GROUP;
-        tally.add(&runner::run_cases(name, first_seed, cases, case));
-        println!("{name}: {cases} cases a round, {:.1?}", start.elapsed());
-    }
-    tally.print();
-    if runner::single_seed() {
-        return;
-    }
-    for number in REPLAY_NUMBERS {
-        let count = tally.replays[number];
-        assert!(
-            count >= LEAST_EACH,
-            "{number} came from {count} replays only"
-        );
-    }
-    for number in SEARCH_NUMBERS {
-        let count = tally.searches[number];
-        assert!(
-            count >= LEAST_EACH,
-            "{number} came from {count} searches only"
-        );
-    }
-    assert!(tally.replays[0] >= 20_000 && tally.searches[0] >= 500);
-    assert!(tally.full_traces >= 50);
-    assert!(tally.replays.iter().sum::<u64>() >= 200_000);
-    assert!(tally.searches.iter().sum::<u64>() >= 2_000);
+fn traces() {
+    let tally = run(Group::Traces, 14_000, traces_case);
+    assert_at_least("an accepted trace", tally.replays.of(0), 20_000);
+}
+
+#[test]
+fn damage() {
+    run(Group::Damage, 4_000, damage_case);
+}
+
+#[test]
+fn limits() {
+    run(Group::Limits, 600, limits_case);
+}
+
+#[test]
+fn long_traces() {
+    let tally = run(Group::LongTraces, 300, long_case);
+    assert_at_least("an accepted trace of 4,096 steps", tally.full_traces, 50);
+}
+
+#[test]
+fn searches() {
+    let tally = run(Group::Searches, 6_000, search_case);
+    assert_at_least("a trace found", tally.searches.of(0), 500);
+}
+
+#[test]
+fn large_searches() {
+    let tally = run(Group::LargeSearches, 100, large_search_case);
+    assert_at_least("a trace found", tally.searches.of(0), 10);
+}
+
+#[test]
+fn deep_searches() {
+    let tally = run(Group::DeepSearches, 10_000, deep_search_case);
+    let deep = (10..)
+        .take(11)
+        .map(|steps| tally.found_steps.of(steps))
+        .sum();
+    assert_at_least("a trace of 10 to 20 steps found", deep, 500);
+}
+
+#[test]
+fn naive_searches() {
+    let tally = run(Group::NaiveSearches, 2_000, naive_search_case);
+    assert_at_least("a trace found", tally.searches.of(0), 500);
 }

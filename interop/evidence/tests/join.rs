@@ -13,7 +13,7 @@ use evidence::generate::{self, Size};
 use evidence::random::Random;
 use evidence::walk::{self, Habit};
 use evidence::{damage, runner};
-use plain::{Accepted, Atoms, MAX_GOALS, MAX_ROWS, MAX_STEPS, Network, Run, Trace};
+use plain::{Accepted, Atoms, MAX_GOALS, MAX_ROWS, MAX_STEPS, Network, Rules, Run, Trace};
 
 const MISMATCH: &str = "accepted without a cut, or not with one";
 
@@ -74,29 +74,30 @@ impl Pair {
         }
     }
 
-    /// How many of the first order's goals may wait in the front.
-    fn front_limit(&self) -> usize {
-        MAX_GOALS - self.second.nodes.len()
+    /// The rules of the front: the second order's goals count among the 64.
+    fn front_rules(&self) -> Rules {
+        Rules {
+            most_waiting: MAX_GOALS - self.second.nodes.len(),
+        }
     }
 
     fn run_join(&self, trace: Trace<'_>) -> Option<Accepted> {
-        plain::run(&self.shop, &self.join, self.join.start, trace, MAX_GOALS).ok()
+        plain::run(Rules::CALLS, &self.shop, &self.join, self.join.start, trace).ok()
     }
 
-    fn run_front(&self, trace: Trace<'_>, limit: usize) -> Option<Accepted> {
-        plain::run(&self.shop, &self.first, self.first.start, trace, limit).ok()
+    fn run_front(&self, trace: Trace<'_>, rules: Rules) -> Option<Accepted> {
+        plain::run(rules, &self.shop, &self.first, self.first.start, trace).ok()
     }
 
     fn run_back(&self, state: Atoms, trace: Trace<'_>) -> Option<Accepted> {
-        plain::run(&self.shop, &self.second, state, trace, MAX_GOALS).ok()
+        plain::run(Rules::CALLS, &self.shop, &self.second, state, trace).ok()
     }
 
-    /// Front and back of every cut that will do, with at most `limit` goals
-    /// waiting in the front.
-    fn cuts(&self, trace: Trace<'_>, limit: usize) -> Vec<(Accepted, Accepted)> {
+    /// Front and back of every cut that will do, with these rules for the front.
+    fn cuts(&self, trace: Trace<'_>, rules: Rules) -> Vec<(Accepted, Accepted)> {
         let cut_accepted = |cut| {
             let (front, back) = trace.split_at(cut);
-            let front = self.run_front(front, limit)?;
+            let front = self.run_front(front, rules)?;
             let back = self.run_back(front.state, back)?;
             Some((front, back))
         };
@@ -121,7 +122,7 @@ fn goal_counts(random: &mut Random) -> (usize, usize) {
 /// A walk on the join itself.
 fn join_walk(random: &mut Random, pair: &Pair, most: usize) -> Option<Vec<Step>> {
     let start = pair.join.start;
-    let mut run = Run::start(&pair.shop, &pair.join, start, MAX_GOALS)?;
+    let mut run = Run::start(Rules::CALLS, &pair.shop, &pair.join, start)?;
     Some(walk::finished_walk(random, &pair.shop, &mut run, most))
 }
 
@@ -129,10 +130,10 @@ fn join_walk(random: &mut Random, pair: &Pair, most: usize) -> Option<Vec<Step>>
 /// the second: where methods are used, this passes the join's limit.
 fn split_walk(random: &mut Random, pair: &Pair, most: usize) -> Vec<Step> {
     let start = pair.first.start;
-    let mut run = Run::start(&pair.shop, &pair.first, start, MAX_GOALS).expect("an order");
+    let mut run = Run::start(Rules::CALLS, &pair.shop, &pair.first, start).expect("an order");
     let mut steps = walk::finished_walk(random, &pair.shop, &mut run, most);
     let state = *run.state();
-    let mut run = Run::start(&pair.shop, &pair.second, state, MAX_GOALS).expect("an order");
+    let mut run = Run::start(Rules::CALLS, &pair.shop, &pair.second, state).expect("an order");
     steps.extend(walk::finished_walk(random, &pair.shop, &mut run, most));
     steps
 }
@@ -140,7 +141,7 @@ fn split_walk(random: &mut Random, pair: &Pair, most: usize) -> Vec<Step> {
 /// A walk on the join that fails or stops on the way.
 fn broken_walk(random: &mut Random, pair: &Pair, most: usize) -> Option<Vec<Step>> {
     let start = pair.join.start;
-    let mut run = Run::start(&pair.shop, &pair.join, start, MAX_GOALS)?;
+    let mut run = Run::start(Rules::CALLS, &pair.shop, &pair.join, start)?;
     let habit = Habit::random(random);
     let most = random.between(0, most);
     let mut steps = walk::walk(random, &pair.shop, &mut run, habit, most);
@@ -170,11 +171,11 @@ fn some_steps(random: &mut Random, pair: &Pair) -> Vec<Step> {
 fn check_plain(pair: &Pair, words: &[u16]) {
     let trace = Trace::check(words).expect("a well-formed trace");
     let joined = pair.run_join(trace);
-    let cuts = pair.cuts(trace, pair.front_limit());
+    let cuts = pair.cuts(trace, pair.front_rules());
     assert!(cuts.len() <= 1, "two cuts");
     assert_eq!(joined.is_some(), cuts.len() == 1, "{MISMATCH}");
     let Some((joined, (front, back))) = joined.zip(cuts.first()) else {
-        if !pair.cuts(trace, MAX_GOALS).is_empty() {
+        if !pair.cuts(trace, Rules::CALLS).is_empty() {
             ONLY_TOO_MANY.fetch_add(1, Ordering::Relaxed);
         }
         return;
@@ -205,8 +206,10 @@ impl Asked<'_> {
         let front_trace = trace_words(front);
         let replayed = self.replay(&self.pair.first_words, front);
         let trace = Trace::check(&front_trace).expect("a well-formed trace");
-        let limit = self.pair.front_limit();
-        let within = self.pair.run_front(trace, limit).is_some();
+        let within = self
+            .pair
+            .run_front(trace, self.pair.front_rules())
+            .is_some();
         if !replayed.accepted() || !within {
             return None;
         }

@@ -51,7 +51,7 @@ mod capi;
 mod refusal;
 mod state;
 
-pub use refusal::Refusal;
+pub use refusal::{Place, QUESTIONS, Question, Refusal, Subject};
 pub use state::{Atoms, State};
 
 /// The most words of plan that a trace can need: one for each of 4,096 steps.

@@ -14,62 +14,110 @@ pub struct Refusal {
 }
 
 /// What the place of a refusal counts.
-enum Place {
-    None,
+#[derive(Clone, Copy, Debug, PartialEq, Eq)]
+pub enum Place {
+    /// Nothing: the question is about a whole sheet, room or number, and the
+    /// place is 0.
+    Whole,
+    /// Rows of the sheet.
     Row,
+    /// Methods.
     Method,
+    /// Steps of the trace.
     Step,
+    /// The place is the number of steps.
     End,
 }
 
-impl Refusal {
+/// What a question is asked of.
+#[derive(Clone, Copy, Debug, PartialEq, Eq)]
+pub enum Subject {
+    /// The shop sheet, in every call.
+    Shop,
+    /// The order sheet, in every call that takes one.
+    Order,
+    /// The trace, in every call that takes one.
+    Trace,
+    /// The room and the steps of a replay.
+    Replay,
+    /// Depth, room and result of a search.
+    Search,
+}
+
+/// A question that a call asks.
+#[derive(Clone, Copy, Debug, PartialEq, Eq)]
+pub struct Question {
+    /// Its number, which a refusal names.
+    pub number: u32,
+    /// What it is asked of.
+    pub subject: Subject,
+    /// What the place of its refusal counts.
+    pub place: Place,
     /// The question in plain words.
-    pub fn question(&self) -> &'static str {
-        match self.number {
-            1 => "is the shop sheet at least 4 words long?",
-            2 => "are the shop sheet's sizes in range?",
-            3 => "is the shop sheet as long as its rows make it?",
-            4 => "may this tag follow here in the shop sheet?",
-            5 => "is this value of the shop sheet in range?",
-            6 => "is this value of the shop sheet above the one before it in its group?",
-            7 => "may the shop sheet end here?",
-            8 => "has the shop sheet as many actions and methods as it says?",
-            9 => "has this method 1 to 63 nodes, the last with one alternative and no after?",
-            11 => "is the order sheet at least 3 words long?",
-            12 => "has the order sheet the shop's atoms, and are its sizes in range?",
-            13 => "is the order sheet as long as its rows make it?",
-            14 => "may this tag follow here in the order sheet?",
-            15 => "is this value of the order sheet in range?",
-            16 => "is this value of the order sheet above the one before it in its group?",
-            17 => "may the order sheet end here?",
-            18 => "has the order sheet as many goals as it says?",
-            21 => "is the trace at least 1 word long?",
-            22 => "has the trace at most 4,096 steps?",
-            23 => "is the trace as long as its steps make it?",
-            24 => "is there room for as many words of plan as the trace has steps?",
-            25 => "is the place below the number of goals waiting?",
-            26 => "is the move a release, an action or a method of the shop?",
-            27 => "is any waiting goal free?",
-            28 => "is this goal free?",
-            29 => "does the goal to be released hold?",
-            30 => "do the needs of the action or method hold?",
-            31 => "is the action or method relevant to this goal?",
-            32 => "do at most 64 goals wait after the method?",
-            33 => "does nothing wait after the last step?",
-            41 => "is the depth at most 32?",
-            42 => "is there room for a trace of that depth?",
-            43 => "is there an accepted trace of at most that many steps?",
-            _ => "a question this wrapper does not know",
-        }
+    pub text: &'static str,
+}
+
+/// One question a line: number, subject, place, text.
+macro_rules! questions {
+    ($($number:literal $subject:ident $place:ident $text:literal)*) => {
+        &[$(Question {
+            number: $number,
+            subject: Subject::$subject,
+            place: Place::$place,
+            text: $text,
+        }),*]
+    };
+}
+
+/// Every question, by rising numbers. `docs/REFUSALS.md` explains each; a test
+/// holds that page to this list.
+pub const QUESTIONS: &[Question] = questions! {
+     1 Shop   Whole  "is the shop sheet at least 4 words long?"
+     2 Shop   Whole  "are the shop sheet's sizes in range?"
+     3 Shop   Whole  "is the shop sheet as long as its rows make it?"
+     4 Shop   Row    "may this tag follow here in the shop sheet?"
+     5 Shop   Row    "is this value of the shop sheet in range?"
+     6 Shop   Row    "is this value of the shop sheet above the one before it in its group?"
+     7 Shop   Whole  "may the shop sheet end here?"
+     8 Shop   Whole  "has the shop sheet as many actions and methods as it says?"
+     9 Shop   Method "has this method 1 to 63 nodes, the last with one alternative and no after?"
+    11 Order  Whole  "is the order sheet at least 3 words long?"
+    12 Order  Whole  "has the order sheet the shop's atoms, and are its sizes in range?"
+    13 Order  Whole  "is the order sheet as long as its rows make it?"
+    14 Order  Row    "may this tag follow here in the order sheet?"
+    15 Order  Row    "is this value of the order sheet in range?"
+    16 Order  Row    "is this value of the order sheet above the one before it in its group?"
+    17 Order  Whole  "may the order sheet end here?"
+    18 Order  Whole  "has the order sheet as many goals as it says?"
+    21 Trace  Whole  "is the trace at least 1 word long?"
+    22 Trace  Whole  "has the trace at most 4,096 steps?"
+    23 Trace  Whole  "is the trace as long as its steps make it?"
+    24 Replay Whole  "is there room for as many words of plan as the trace has steps?"
+    25 Replay Step   "is the place below the number of goals waiting?"
+    26 Replay Step   "is the move a release, an action or a method of the shop?"
+    27 Replay Step   "is any waiting goal free?"
+    28 Replay Step   "is this goal free?"
+    29 Replay Step   "does the goal to be released hold?"
+    30 Replay Step   "do the needs of the action or method hold?"
+    31 Replay Step   "is the action or method relevant to this goal?"
+    32 Replay Step   "do at most 64 goals wait after the method?"
+    33 Replay End    "does nothing wait after the last step?"
+    41 Search Whole  "is the depth at most 32?"
+    42 Search Whole  "is there room for a trace of that depth?"
+    43 Search Whole  "is there an accepted trace of at most that many steps?"
+};
+
+impl Refusal {
+    /// What was asked; `None` of a number that this wrapper does not know.
+    pub fn asked(&self) -> Option<&'static Question> {
+        QUESTIONS.iter().find(|asked| asked.number == self.number)
     }
 
-    fn place_counts(&self) -> Place {
-        match self.number {
-            4..=6 | 14..=16 => Place::Row,
-            9 => Place::Method,
-            25..=32 => Place::Step,
-            33 => Place::End,
-            _ => Place::None,
+    /// The question in plain words.
+    pub fn question(&self) -> &'static str {
+        match self.asked() {
+            Some(asked) => asked.text,
+            None => "a question this wrapper does not know",
         }
     }
 }
@@ -77,8 +125,8 @@ impl Refusal {
 impl fmt::Display for Refusal {
     fn fmt(&self, f: &mut fmt::Formatter<'_>) -> fmt::Result {
         write!(f, "refused with {}", self.number)?;
-        match self.place_counts() {
-            Place::None => {}
+        match self.asked().map_or(Place::Whole, |asked| asked.place) {
+            Place::Whole => {}
             Place::Row => write!(f, " at row {}", self.place)?,
             Place::Method => write!(f, " at method {}", self.place)?,
             Place::Step => write!(f, " at step {}", self.place)?,

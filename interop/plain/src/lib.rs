@@ -5,7 +5,7 @@
 //!
 //! The five public calls take the sheets as words, as the library does. Below
 //! them [`Shop`], [`Network`], [`Trace`] and [`Run`] are open for tests that
-//! walk step by step or join two orders.
+//! walk step by step, join two orders or run by other [`Rules`].
 
 #![forbid(unsafe_code)]
 #![warn(missing_docs)]
@@ -18,7 +18,7 @@ mod sheet;
 
 pub use literals::{Atoms, AtomsIter, Literals};
 pub use network::{Action, Method, Network, Node, Nodes, Shop};
-pub use run::{Accepted, METHOD_0, Run, Unaccepted, WaitingList, run};
+pub use run::{Accepted, METHOD_0, Rules, Run, Unaccepted, WaitingList, run};
 pub use search::{Budget, MAX_DEPTH, Stopped};
 pub use sheet::{
     MAX_ACTIONS, MAX_ATOMS, MAX_GOALS, MAX_METHOD_NODES, MAX_METHODS, MAX_ROWS, MAX_STEPS, Refusal,
@@ -62,7 +62,7 @@ pub fn replay(
     }
     let shop = Shop::build(&shop);
     let order = Network::build(&order);
-    match run(&shop, &order, order.start, trace, MAX_GOALS) {
+    match run(Rules::CALLS, &shop, &order, order.start, trace) {
         Ok(accepted) => {
             for (word, action) in plan.iter_mut().zip(trace.plan()) {
                 *word = action;

@@ -1,11 +1,45 @@
 //! The run of a trace on a network: questions 25 to 33.
 
 use crate::literals::{Atoms, Literals};
-use crate::network::{Network, Shop};
+use crate::network::{Action, Method, Network, Shop};
 use crate::sheet::{MAX_ACTIONS, MAX_GOALS, Refusal, Trace};
 
 /// The move of method 0.
 pub const METHOD_0: u16 = 256;
+
+/// What a run allows beyond what the sheets say: how many goals may wait, and
+/// which actions and methods serve which goals.
+#[derive(Clone, Copy, Debug, PartialEq, Eq)]
+pub struct Rules {
+    /// The most goals that may wait, at the start and after every step. More
+    /// than 64 counts as 64.
+    pub most_waiting: usize,
+}
+
+impl Rules {
+    /// The rules of the public calls.
+    pub const CALLS: Rules = Rules {
+        most_waiting: MAX_GOALS,
+    };
+
+    /// May this action be taken for a goal with these literals?
+    #[inline]
+    pub(crate) fn allows_action(self, action: &Action, goal: &Literals) -> bool {
+        action.effects.relevant(goal)
+    }
+
+    /// May this method be used at a goal with these literals?
+    #[inline]
+    pub(crate) fn allows_method(self, method: &Method, goal: &Literals) -> bool {
+        method.goal.relevant(goal)
+    }
+
+    /// May so many goals wait?
+    #[inline]
+    fn allows_waiting(self, waiting: usize) -> bool {
+        waiting <= self.most_waiting.min(MAX_GOALS)
+    }
+}
 
 /// The goals that wait, in order, each with the places it comes after.
 ///
@@ -144,27 +178,25 @@ enum Move {
 /// A derivation under way.
 #[derive(Clone, Debug)]
 pub struct Run<'a> {
+    pub(crate) rules: Rules,
     shop: &'a Shop,
     network: &'a Network,
-    limit: usize,
     pub(crate) state: Atoms,
     pub(crate) waiting: WaitingList,
 }
 
 impl<'a> Run<'a> {
-    /// The start, unless more than `limit` goals wait there. A limit above 64
-    /// counts as 64.
+    /// The start, unless more goals wait there than the rules allow.
     pub fn start(
+        rules: Rules,
         shop: &'a Shop,
         network: &'a Network,
         state: Atoms,
-        limit: usize,
     ) -> Option<Run<'a>> {
-        let limit = limit.min(MAX_GOALS);
-        (network.nodes.len() <= limit).then(|| Run {
+        rules.allows_waiting(network.nodes.len()).then(|| Run {
+            rules,
             shop,
             network,
-            limit,
             state,
             waiting: WaitingList::new(network),
         })
@@ -232,7 +264,7 @@ impl<'a> Run<'a> {
                 if !action.needs.hold(&self.state) {
                     return Err(30);
                 }
-                let relevant = action.effects.relevant(self.literals(goal));
+                let relevant = self.rules.allows_action(action, self.literals(goal));
                 relevant.then_some(step).ok_or(31)
             }
             Move::Method(method) => {
@@ -240,10 +272,10 @@ impl<'a> Run<'a> {
                 if !method.needs.hold(&self.state) {
                     return Err(30);
                 }
-                if !method.goal.relevant(self.literals(goal)) {
+                if !self.rules.allows_method(method, self.literals(goal)) {
                     return Err(31);
                 }
-                let fits = self.waiting.len() + method.nodes <= self.limit;
+                let fits = self.rules.allows_waiting(self.waiting.len() + method.nodes);
                 fits.then_some(step).ok_or(32)
             }
         }
@@ -297,17 +329,16 @@ pub enum Unaccepted {
     Refused(Refusal),
 }
 
-/// Runs a trace on a network from a state, with at most `limit` goals waiting
-/// at the start and after every step.
+/// Runs a trace on a network from a state, by these rules.
 pub fn run(
+    rules: Rules,
     shop: &Shop,
     network: &Network,
     state: Atoms,
     trace: Trace<'_>,
-    limit: usize,
 ) -> Result<Accepted, Unaccepted> {
     let refuse = |number, place| Err(Unaccepted::Refused(Refusal::new(number, place)));
-    let Some(mut run) = Run::start(shop, network, state, limit) else {
+    let Some(mut run) = Run::start(rules, shop, network, state) else {
         return Err(Unaccepted::TooManyAtStart);
     };
     for (number, (place, word)) in trace.steps().enumerate() {

@@ -7,8 +7,8 @@
 use std::time::Instant;
 
 use crate::network::{Network, Shop};
-use crate::run::{METHOD_0, Run};
-use crate::sheet::{MAX_GOALS, Refusal};
+use crate::run::{METHOD_0, Rules, Run};
+use crate::sheet::Refusal;
 
 /// The most steps a search may be asked for.
 pub const MAX_DEPTH: u32 = 32;
@@ -97,7 +97,7 @@ pub(crate) fn shortest(
     depth: usize,
     budget: Budget,
 ) -> Result<Vec<Step>, Stopped> {
-    let run = Run::start(shop, order, order.start, MAX_GOALS);
+    let run = Run::start(Rules::CALLS, shop, order, order.start);
     let mut search = Search {
         shop,
         run: run.expect("an order has at most 64 goals"),
@@ -216,16 +216,16 @@ impl Search<'_> {
         if let Some(listed) = self.by_goal[usize::from(goal)] {
             return listed;
         }
-        let literals = self.run.literals(goal);
+        let (rules, literals) = (self.run.rules, self.run.literals(goal));
         let first = self.relevant.len() as u32;
         for (word, action) in (1..).zip(&self.shop.actions) {
-            if action.effects.relevant(literals) {
+            if rules.allows_action(action, literals) {
                 self.relevant.push(word);
             }
         }
         let first_method = self.relevant.len() as u32;
         for (word, method) in (METHOD_0..).zip(&self.shop.methods) {
-            if method.goal.relevant(literals) {
+            if rules.allows_method(method, literals) {
                 self.relevant.push(word);
             }
         }

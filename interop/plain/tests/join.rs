@@ -1,6 +1,6 @@
 //! The join of two orders as a network.
 
-use plain::{Atoms, MAX_GOALS, Network, Shop, Trace, Unaccepted, run};
+use plain::{Atoms, MAX_GOALS, Network, Rules, Shop, Trace, Unaccepted, run};
 
 /// Two atoms; action 1 makes atom 0 true, action 2 makes atom 1 true and atom 0
 /// false.
@@ -15,6 +15,10 @@ fn order(shop: &Shop, start: &[u16], atoms: &[u16]) -> Network {
     words.extend(start);
     words.extend(atoms.iter().flat_map(|&atom| [0, 0, atom]));
     Network::read(shop, &words).expect("a well-formed order")
+}
+
+fn at_most(most_waiting: usize) -> Rules {
+    Rules { most_waiting }
 }
 
 fn shop() -> Shop {
@@ -43,14 +47,14 @@ fn front_and_back_run_one_after_the_other() {
     let join = Network::join(&first, &second);
     let words = [4, 1, 0, 2, 0, 0, 0, 0, 0];
     let trace = Trace::check(&words).unwrap();
-    let joined = run(&shop, &join, join.start, trace, MAX_GOALS).unwrap();
+    let joined = run(Rules::CALLS, &shop, &join, join.start, trace).unwrap();
     let (front, back) = trace.split_at(2);
-    let front = run(&shop, &first, first.start, front, MAX_GOALS - 1).unwrap();
-    let back = run(&shop, &second, front.state, back, MAX_GOALS).unwrap();
+    let front = run(at_most(MAX_GOALS - 1), &shop, &first, first.start, front).unwrap();
+    let back = run(Rules::CALLS, &shop, &second, front.state, back).unwrap();
     assert_eq!((front.cost, back.cost, joined.cost), (3, 4, 7));
     assert_eq!(joined.state, back.state);
     // With the second's goal among the 64, none of the first's may wait in 0.
-    let none_left = run(&shop, &first, first.start, trace.split_at(2).0, 0);
+    let none_left = run(at_most(0), &shop, &first, first.start, trace.split_at(2).0);
     assert_eq!(none_left, Err(Unaccepted::TooManyAtStart));
 }
 
@@ -63,6 +67,6 @@ fn more_than_64_goals_are_too_many() {
     assert_eq!(join.nodes.len(), 128);
     assert_eq!(join.nodes.node(127).after, u128::from(u64::MAX));
     let trace = Trace::check(&[0]).unwrap();
-    let joined = run(&shop, &join, join.start, trace, MAX_GOALS);
+    let joined = run(Rules::CALLS, &shop, &join, join.start, trace);
     assert_eq!(joined, Err(Unaccepted::TooManyAtStart));
 }
