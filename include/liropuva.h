@@ -1,15 +1,14 @@
 /*
  * The five public calls of Liropuva for C: the checks of the three sheets, the replay of a trace, and the bounded search.
  *
- * A shop sheet is F K M N, then N tags, then N values; an order sheet F G N, then N tags, then N values; a trace L, then L
- * moves, then L places: all tags before all values, all moves before all places. docs/REFUSALS.md has the tags, ranges and
- * limits, and each number that a call can answer. Each call answers what the definitions of crates/hgn/specs say, for every
- * input, refusals too: this is proved of crates/capi/src/lib.rt, where the contracts stand. Any words and any lengths may be
- * passed.
+ * docs/SPECIFICATION.md, section 1, says what the sheets are: in an array all tags stand before all values, all moves before
+ * all places. docs/REFUSALS.md has each number that a call can answer; docs/CALLING.md has worked examples. Each call answers
+ * what the definitions of crates/hgn/specs say, for every input, refusals too: this is proved of crates/capi/src/lib.rt, where
+ * the contracts stand. Any words and any lengths may be passed.
  *
  * What a caller owes, and nothing checks:
  * - A pointer is not null and is aligned for its type, also where its length is 0. Lengths count words, not bytes.
- * - Behind it stand as many words as its length says; behind `answer` 2 or 4 words, behind `atoms` 256 bytes.
+ * - Behind it stand as many words as its length says; behind `answer` and `atoms` as many as their declarations say.
  * - What is written (plan, room, answer, atoms) overlaps nothing else that is passed. The sheets are only read, and may
  *   overlap each other.
  * - Until the call returns, nothing else writes what is passed, and nothing else reads what is written.
@@ -26,7 +25,7 @@
  * A call whose shape changes (its parameters, their widths, how much it writes) gets a new symbol: its name with a number
  * behind it. The old symbol goes, and a macro of this header keeps the plain name for C. So an object that was compiled with
  * an older header, which asks for the old symbol, does not link, rather than misbehave. This holds for every later change. A
- * language that does not read this header declares the symbol with its number.
+ * language that does not read this header declares the symbol with its number. HGN_INTERFACE goes up with each such change.
  *
  * To link, on x86-64 Linux: `rt staticlib capi` proves the crate and writes target/staticlib/libcapi.a, which needs only
  * memcpy and memset of the C library:  cc -Iinclude program.c target/staticlib/libcapi.a
@@ -40,6 +39,14 @@
 #ifdef __cplusplus
 extern "C" {
 #endif
+
+/* The number of this interface, for code that is compiled with more than one: CHANGES.md says what each number brought. */
+#define HGN_INTERFACE 2
+
+/* The words of each answer. */
+#define HGN_CHECK_ANSWER 2
+#define HGN_REPLAY_ANSWER 4
+#define HGN_SEARCH_ANSWER 2
 
 /* The bytes of a state: as many for every shop, whatever its F. */
 #define HGN_ATOMS 256
@@ -62,16 +69,16 @@ extern "C" {
  * passed.
  */
 void hgn_check_shop(const uint16_t *shop, size_t shop_words,
-                    uint32_t answer[2]);
+                    uint32_t answer[HGN_CHECK_ANSWER]);
 
 void hgn_check_order(const uint16_t *shop, size_t shop_words,
                      const uint16_t *order, size_t order_words,
-                     uint32_t answer[2]);
+                     uint32_t answer[HGN_CHECK_ANSWER]);
 
 void hgn_check_trace(const uint16_t *shop, size_t shop_words,
                      const uint16_t *order, size_t order_words,
                      const uint16_t *trace, size_t trace_words,
-                     uint32_t answer[2]);
+                     uint32_t answer[HGN_CHECK_ANSWER]);
 
 /*
  * The replay of a trace of L steps. answer is number, place, plan count, cost.
@@ -85,7 +92,7 @@ void hgn_replay(const uint16_t *shop, size_t shop_words,
                 const uint16_t *order, size_t order_words,
                 const uint16_t *trace, size_t trace_words,
                 uint16_t *plan, size_t plan_words,
-                uint32_t answer[4], uint8_t atoms[HGN_ATOMS]);
+                uint32_t answer[HGN_REPLAY_ANSWER], uint8_t atoms[HGN_ATOMS]);
 
 /*
  * The search for a trace of at most `depth` steps that the replay accepts: fewest steps first; among equally long ones the
@@ -101,7 +108,7 @@ void hgn_search_2(const uint16_t *shop, size_t shop_words,
                   const uint16_t *order, size_t order_words,
                   uint32_t depth,
                   uint16_t *room, size_t room_words,
-                  uint32_t answer[2]);
+                  uint32_t answer[HGN_SEARCH_ANSWER]);
 
 #ifdef __cplusplus
 }

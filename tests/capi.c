@@ -34,7 +34,7 @@ static const uint16_t shorter[] = {9, 256, 1, 0, 2, 0, 3, 0, 4, 0, 0, 0, 0, 0, 0
 static const uint16_t foreign_atom[] = {4, 1, 3, 7, 8, 9, 0, 0, 4};
 
 static uint16_t room[KEPT + ROOM + KEPT];
-static uint32_t answer[KEPT + 4 + KEPT];
+static uint32_t answer[KEPT + HGN_REPLAY_ANSWER + KEPT];
 static uint8_t atoms[KEPT + HGN_ATOMS + KEPT];
 
 static void fresh(void) {
@@ -75,7 +75,7 @@ static void same_atoms(const char *name, size_t first, size_t end) {
 
 static void same_verdict(const char *name, uint32_t number, uint32_t place) {
     const uint32_t wanted[] = {number, place};
-    same_answer(name, wanted, 2);
+    same_answer(name, wanted, HGN_CHECK_ANSWER);
 }
 
 static void checks(void) {
@@ -115,26 +115,26 @@ static void replayed(const uint16_t *steps, size_t count, size_t words) {
 }
 
 static void replays(void) {
-    const uint32_t accepted[] = {0, 10, 4, 26};
-    const uint32_t unfinished[] = {33, 9, 0, 0};
-    const uint32_t no_room[] = {24, 0, 0, 0};
+    const uint32_t accepted[HGN_REPLAY_ANSWER] = {0, 10, 4, 26};
+    const uint32_t unfinished[HGN_REPLAY_ANSWER] = {33, 9, 0, 0};
+    const uint32_t no_room[HGN_REPLAY_ANSWER] = {24, 0, 0, 0};
 
     replayed(SHEET(trace), ROOM);
-    same_answer("the replay", accepted, 4);
+    same_answer("the replay", accepted, HGN_REPLAY_ANSWER);
     same_room("the replay", SHEET(plan));
     same_atoms("the replay", 1, 4);
 
     replayed(SHEET(trace), 10);
-    same_answer("a room of L words", accepted, 4);
+    same_answer("a room of L words", accepted, HGN_REPLAY_ANSWER);
     same_room("a room of L words", SHEET(plan));
 
     replayed(SHEET(trace), 9);
-    same_answer("a room one word short", no_room, 4);
+    same_answer("a room one word short", no_room, HGN_REPLAY_ANSWER);
     same_room("a room one word short", plan, 0);
     same_atoms("a room one word short", 0, 0);
 
     replayed(SHEET(shorter), ROOM);
-    same_answer("a trace without its last step", unfinished, 4);
+    same_answer("a trace without its last step", unfinished, HGN_REPLAY_ANSWER);
     same_room("a trace without its last step", plan, 0);
     same_atoms("a trace without its last step", 0, 0);
 }
