@@ -48,13 +48,7 @@ fn write_comma(at: usize) {
     }
 }
 
-fn write_steps<'a>(
-    shop: &'a [u16],
-    order: &'a [u16],
-    trace: &[u16],
-    tables: &[u16],
-    first: Problem,
-)
+fn write_steps<'a>(shop: &'a [u16], order: &'a [u16], trace: &[u16], tables: &[u16], first: Problem)
     requires { ⌜ Indexed (now shop) (now order) (now tables) ⌝ }
     requires { ⌜ first .waiting .count ≤ mostWaiting ⌝ }
 {
@@ -68,15 +62,7 @@ fn write_steps<'a>(
         let place = word(trace, Trace::SIZES + steps + at);
         write_comma(at);
         at += 1;
-        let shown = forward::show_step(
-            problem,
-            shop,
-            order,
-            tables,
-            number,
-            mv,
-            Place(place),
-        );
+        let shown = forward::show_step(problem, shop, order, tables, number, mv, Place(place));
         write_shown(shown);
         problem = shown.problem;
         let refusal = shown.refusal;
@@ -85,12 +71,7 @@ fn write_steps<'a>(
     line::text(b"\n");
 }
 
-fn write_indexed<'a>(
-    shop: &'a [u16],
-    order: &'a [u16],
-    trace: &[u16],
-    tables: &mut [u16],
-)
+fn write_indexed<'a>(shop: &'a [u16], order: &'a [u16], trace: &[u16], tables: &mut [u16])
     requires { ⌜ checkOrder (now shop) (now order) ≡ passed ⌝ }
     requires { ⌜ mostRows + suc (mostActions + mostMethods) ≤ length (now tables) ⌝ }
 {

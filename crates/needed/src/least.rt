@@ -375,12 +375,7 @@ fn one_alternative(tags: &[u16], values: &[u16]) -> bool
 }
 
 // No accepted trace has fewer steps: a release for each goal that waits, and what the needed moves take.
-pub fn at_least<'a>(
-    shop: &'a [u16],
-    order: &'a [u16],
-    tables: &[u16],
-    problem: Problem,
-) -> u16
+pub fn at_least<'a>(shop: &'a [u16], order: &'a [u16], tables: &[u16], problem: Problem) -> u16
     requires { ⌜ Indexed (now shop) (now order) (now tables) × (problem .waiting .count ≤ 64) ⌝ }
     ensures { λ r. ⌜ ((k : ℕ) → k < r → (P₀ : Run.Problem) (y : Run.Step) (n : ℕ)
         → prunedOf k (rulesOf (now (shop .entry))) P₀ y n (problemIn (now (shop .entry)) (now (order .entry)) problem) ≡ none) ⌝ }

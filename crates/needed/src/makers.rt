@@ -159,12 +159,7 @@ fn method_has<'a>(
 }
 
 // The method, by its number plus 1, that alone has a node to which this action is relevant; 0 where none or several have.
-pub fn only_method<'a>(
-    shop: &'a [u16],
-    order: &'a [u16],
-    tables: &[u16],
-    action: u16,
-) -> u16
+pub fn only_method<'a>(shop: &'a [u16], order: &'a [u16], tables: &[u16], action: u16) -> u16
     requires { ⌜ Indexed (now shop) (now order) (now tables) × (1 ≤ action) × (action ≤ actionCount (now shop)) ⌝ }
     ensures { λ r. ⌜ (1 ≤ r → (r ≤ methodCount (now (shop .entry))) × OnlyMethod (rulesOf (now (shop .entry))) action (r - 1)) ⌝ }
 {

@@ -62,13 +62,7 @@ pub fn ready<'a>(
 }
 
 // An action is relevant to the goal. Of a method that is asked when it is taken.
-pub fn wanted<'a>(
-    shop: &'a [u16],
-    order: &'a [u16],
-    tables: &[u16],
-    goal: Entry,
-    mv: Move,
-) -> bool
+pub fn wanted<'a>(shop: &'a [u16], order: &'a [u16], tables: &[u16], goal: Entry, mv: Move) -> bool
     requires { ⌜ Indexed (now shop) (now order) (now tables) × Known (actionCount (now shop)) (methodCount (now shop)) mv ⌝ }
     ensures { λ r. ⌜ r ≡ isWanted (rulesOf (now (shop .entry))) (waitingOf (now (shop .entry)) (now (order .entry)) goal) (knownOf mv) ⌝ }
 {

@@ -30,12 +30,7 @@ fn moves_of(trace: &[u16]) -> &[u16]
 }
 
 // The run of a trace's steps, on sheets that passed.
-fn run_indexed<'a>(
-    shop: &'a [u16],
-    order: &'a [u16],
-    trace: &[u16],
-    tables: &mut [u16],
-) -> Answer
+fn run_indexed<'a>(shop: &'a [u16], order: &'a [u16], trace: &[u16], tables: &mut [u16]) -> Answer
     requires { ⌜ checkTrace (now shop) (now order) (now trace) ≡ passed ⌝ }
     requires { ⌜ mostRows + suc (mostActions + mostMethods) ≤ length (now tables) ⌝ }
     ensures { λ r. ⌜ answerOf r ≡ runAnswer (now (shop .entry)) (now (trace .entry)) (problemOf (OrderSheet.order (now (order .entry)))) ⌝ }

@@ -66,16 +66,7 @@ pub fn run<'a>(
             goal: goal,
             free: free,
         };
-        let decision = decide(
-            shop,
-            order,
-            tables,
-            &atoms,
-            seen,
-            waiting.count,
-            mv,
-            place,
-        );
+        let decision = decide(shop, order, tables, &atoms, seen, waiting.count, mv, place);
         match decision {
             Decision::Refused(refusal) => {
                 return Answer::refused(told(shop, order, waiting, refusal).at(number));

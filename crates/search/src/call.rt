@@ -71,12 +71,7 @@ fn deepen<'a>(
 }
 
 // On sheets that passed, with tables of these sizes.
-fn search_indexed<'a>(
-    shop: &'a [u16],
-    order: &'a [u16],
-    depth: u16,
-    tables: &mut [u16],
-) -> Shortest
+fn search_indexed<'a>(shop: &'a [u16], order: &'a [u16], depth: u16, tables: &mut [u16]) -> Shortest
     requires { ⌜ (checkOrder (now shop) (now order) ≡ passed) × (depth ≤ 32) ⌝ }
     requires { ⌜ mostRows + suc (mostActions + mostMethods) ≤ length (now tables) ⌝ }
     ensures { λ r. ⌜ (shortestOf r ≡ searched (now (shop .entry)) (now (order .entry)) depth) × (r .length ≤ depth) ⌝ }

@@ -90,16 +90,7 @@ pub fn try_step<'a>(
 {
     // Asked first, so that the record is not copied where no step can go first.
     if rules::goes_first(last, last_place, mv, place) {
-        if rules::could_go_first(
-            shop,
-            order,
-            tables,
-            before,
-            last,
-            last_place,
-            mv,
-            place,
-        ) {
+        if rules::could_go_first(shop, order, tables, before, last, last_place, mv, place) {
             return Tried::out(problem);
         }
     }

@@ -216,6 +216,9 @@ module _ {shop order table : List ℕ} (ix : Indexed shop order table) where
       first-is = ap (λ (i : ℕ). getD table i 0) from-is ∙ end-at ix from (block-first rows b inside .0)
 
       pub method-read : MethodAt shop order table m
-          (record { from = record { 0 = getD table (mostRows + k + m) 0 }; first = record { 0 = getD table (getD table (mostRows + k + m) 0) 0 };
-          end = record { 0 = getD table (mostRows + k + m + 1) 0 } })
+          (record {
+            from = record { 0 = getD table (mostRows + k + m) 0 };
+            first = record { 0 = getD table (getD table (mostRows + k + m) 0) 0 };
+            end = record { 0 = getD table (mostRows + k + m + 1) 0 };
+          })
       method-read = rw (first-is, from-is, to-is) method-here

@@ -71,15 +71,7 @@ pub fn take_move<'a>(
     let atoms = problem.atoms;
     let waiting = problem.waiting;
     let goal = waiting.goal(place);
-    let refusal = questions::of_move(
-        shop,
-        order,
-        tables,
-        &atoms,
-        known,
-        goal.rows,
-        waiting.count,
-    );
+    let refusal = questions::of_move(shop, order, tables, &atoms, known, goal.rows, waiting.count);
     if refusal.number == 0 {
         return taken(
             shop,
@@ -112,16 +104,7 @@ pub fn step<'a>(
     let atoms = problem.atoms;
     let waiting = problem.waiting;
     let seen = free::look(shop, order, waiting, place);
-    let decision = questions::decide(
-        shop,
-        order,
-        tables,
-        &atoms,
-        seen,
-        waiting.count,
-        mv,
-        place,
-    );
+    let decision = questions::decide(shop, order, tables, &atoms, seen, waiting.count, mv, place);
     match decision {
         Decision::Refused(refusal) => {
             let told = questions::told(shop, order, waiting, refusal);
