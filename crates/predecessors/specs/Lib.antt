@@ -2,3 +2,4 @@
 pub mod Pending
 pub mod Kept
 pub mod Reaching
+pub mod Goals

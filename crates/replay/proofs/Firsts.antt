@@ -1,5 +1,5 @@
 -- The goals of a checked order, read along the table of its ends, and how they enter the empty list. Assumes nothing.
-use Prim.Native.Nat.{ℕ, _<_, _≤_}
+use Prim.Native.Nat.{ℕ, _+_, _<_, _≤_}
 use native.Mathlib.Omega.{arith}
 use mathlib.Core.Path.{_≡_, refl, sym, ap, _∙_}
 use mathlib.Core.Bool.{false}
@@ -14,7 +14,7 @@ use Rattle.hgn.specs.Rows.{Row, row, has}
 use Rattle.hgn.specs.Tag as Tag
 use Rattle.hgn.specs.Meaning.{nodeOf, nodesOf, orderOf}
 use Rattle.hgn.specs.Network as Network
-use Rattle.hgn.specs.Network.{enter, goalsOf}
+use Rattle.hgn.specs.Network.{enter, goalsOf, goalAt}
 use Rattle.hgn.specs.Questions.{passed}
 use Rattle.hgn.specs.Order as Order
 use Rattle.hgn.specs.Order.{orderRows}
@@ -28,6 +28,11 @@ use Rattle.network.specs.Entries.{orderOrigin, waitingOf, listOf, entriesOf}
 use Rattle.spans.specs.Tables.{Bounds, Walk, nodeAt}
 use Rattle.network.specs.Entering.{entriesFrom}
 use Rattle.replay.specs.OrderTable.{OrderIndexed, firstRow}
+use Rattle.predecessors.specs.Goals.{countIn, listIn, countsIn, nodeEntries, Begun}
+use Rattle.predecessors.specs.declared.goals.Entering.{Entering}
+use Rattle.predecessors.proofs.WaitingGoals.{list-length, list-at, count-at}
+use Rattle.predecessors.proofs.Counted.{counted-first}
+use Rattle.replay.specs.Taking.{FirstGoals}
 use Rattle.network.specs.declared.waiting.Name.{Name}
 use Rattle.network.specs.declared.waiting.Waiting.{Waiting}
 use Rattle.network.proofs.Entered.{order-enters}
@@ -109,3 +114,32 @@ module _ {shop order table : List ℕ} (ix : OrderIndexed shop order table) wher
       ap (map (waitingOf shop order)) e
       ∙ order-enters shop order Of.Order n (a .bs) parent 0
       ∙ ap (enter Network.order none 0) (a .nodes)
+
+  -- All that waits, with their counts.
+  pub goals-begun : (first : ℕ) (a : GoalsAt shop order table first) (network : Entering) (ws : List ℕ) → network .origin ≡ orderOrigin → network .method ≡ false
+      → Begun shop order network (a .bs) ws → FirstGoals shop order ws
+  unfolding goalsOf
+  goals-begun first a network ws o m b =
+      let e : nodeEntries network (a .bs) ≡ entriesFrom Of.Order orderOrigin (network .parent) false (network .end .0) 0 (a .bs) = rw (o, m) refl in
+      let list : listIn shop order ws ≡ goalsOf (Order.order order) =
+      ap (map (waitingOf shop order)) (b .goals ∙ e) ∙ order-enters shop order Of.Order (network .end .0) (a .bs) (network .parent) 0 ∙ ap (enter Network.order none 0) (a .nodes) in
+      record {
+        kept = record {
+          within = b .within;
+          counted =
+              counted-first shop order (ix .checked) list (sym (list-length shop order ws)) {c = countsIn ws} {r = countsIn ws} (record {
+                size = refl;
+                filled = λ k h.
+                    let n = list-length shop order ws in
+                    let z : 0 + k ≡ k = omega arith in
+                    ap (λ (j : ℕ). getD (countsIn ws) j 0) z
+                    ∙ count-at ws k (omega (arith, b .within .few))
+                    ∙ b .counts k (omega (arith, b .count))
+                    ∙ ap (λ (x : Network.Waiting). length (x .after)) (sym (list-at shop order ws k h))
+                    ∙ ap (λ (j : ℕ). length (goalAt (listIn shop order ws) j .after)) (sym z);
+                before = λ k h. absurd (omega arith);
+                behind = λ k h. refl;
+              });
+        };
+        list = list;
+      }

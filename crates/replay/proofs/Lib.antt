@@ -6,3 +6,4 @@ pub mod Totals
 pub mod Firsts
 pub mod Calls
 pub mod CallDemands
+pub mod TakenSteps

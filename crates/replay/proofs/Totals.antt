@@ -7,7 +7,7 @@ use mathlib.Core.Path.{_≡_, refl, sym, ap, ap₂, _∙_}
 use mathlib.Core.Bool.{false}
 use mathlib.Core.List.{List, [], _∷_}
 use lib.Dec.{eqb}
-use lib.ListN.{length, getD, take, drop, length-map}
+use lib.ListN.{length, getD, take, drop}
 use Rattle.hgn.specs.Meaning.{Domain}
 use Rattle.hgn.specs.Questions.{Refusal, _asks_, placed, allAt, firstNo}
 use Rattle.hgn.specs.Run as Run
@@ -17,9 +17,7 @@ use Rattle.hgn.specs.Trace.{step, stepsOf, stepCount}
 use Rattle.hgn.specs.Replay.{rulesOf, refusal, acceptance, reported}
 use Rattle.scan.proofs.Lookup.{length-zipWith, getD-zipWith, length-part, getD-part}
 use Rattle.spans.proofs.Spans.{by-test}
-use Rattle.network.specs.Entries.{entriesOf, waitingOf}
 use Rattle.replay.specs.Answers.{runAnswer, endAnswer}
-use Rattle.steps.specs.Steps.{problemIn}
 use Rattle.steps.specs.declared.problem.Problem.{Problem}
 use Rattle.replay.proofs.Running.{prependAll, prepended-stopped, prepended-accepted, Running, running-next, running-stop, running-end}
 
@@ -90,19 +88,16 @@ module _ (shop trace : List ℕ) (fits : 1 + (stepCount trace + stepCount trace)
       (omega arith) (omega arith) (omega arith) (omega arith)
 
 -- A run in progress, and its end.
-module _ (shop order trace : List ℕ) (fits : 1 + (stepCount trace + stepCount trace) ≤ length trace) (P₀ : Run.Problem)
-    (i : ℕ) (problem : Problem) (count cost : ℕ) (going : Running (rulesOf shop) (stepsOf trace) P₀ i (problemIn shop order problem) count cost)
+module _ (shop trace : List ℕ) (fits : 1 + (stepCount trace + stepCount trace) ≤ length trace) (P₀ : Run.Problem)
+    (i : ℕ) (P : Run.Problem) (count cost : ℕ) (going : Running (rulesOf shop) (stepsOf trace) P₀ i P count cost)
   where
     -- After the last step.
-    pub run-ended : stepCount trace ≤ i
-        → endAnswer (stepCount trace) (problem .atoms) (length (entriesOf (problem .waiting))) count cost ≡ runAnswer shop trace P₀
+    pub run-ended : stepCount trace ≤ i → endAnswer (stepCount trace) (P .state) (length (P .waiting)) count cost ≡ runAnswer shop trace P₀
     run-ended past =
         let l = steps-length trace fits in
         let last : i ≡ stepCount trace = omega (arith, going .inside) in
-        let plan = planOf (going .deeds) in
-        ap₂ (endAnswer (stepCount trace) (problem .atoms) (length (entriesOf (problem .waiting)))) (going .counts) (going .costs)
-        ∙ ap (λ (n : ℕ). endAnswer (stepCount trace) (problem .atoms) n (length plan) (costOf (domain shop) plan)) (sym (length-map (entriesOf (problem .waiting)) (waitingOf shop order)))
-        ∙ sym (ended-answer (domain shop) (stepCount trace) (going .deeds) (problemIn shop order problem))
+        ap₂ (endAnswer (stepCount trace) (P .state) (length (P .waiting))) (going .counts) (going .costs)
+        ∙ sym (ended-answer (domain shop) (stepCount trace) (going .deeds) P)
         ∙ ap (λ (o : Run.Outcome). reported (domain shop) (stepCount trace) [] o .answer)
-        (ap (λ (n : ℕ). prependAll (going .deeds) (Run.ended n (problemIn shop order problem))) (sym last)
-        ∙ sym (running-end (rulesOf shop) (stepsOf trace) P₀ i (problemIn shop order problem) count cost going (omega arith)))
+        (ap (λ (n : ℕ). prependAll (going .deeds) (Run.ended n P)) (sym last)
+        ∙ sym (running-end (rulesOf shop) (stepsOf trace) P₀ i P count cost going (omega arith)))

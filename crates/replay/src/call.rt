@@ -3,6 +3,8 @@ use crate::answer::Answer;
 use crate::first;
 use crate::plan;
 use crate::run;
+use formulas::state::State;
+use predecessors::goals::Goals;
 use reading::refusal::Refusal;
 use scan::rows::word;
 use sheets::check;
@@ -35,8 +37,10 @@ fn run_indexed<'a>(shop: &'a [u16], order: &'a [u16], trace: &[u16], tables: &mu
     requires { ⌜ mostRows + suc (mostActions + mostMethods) ≤ length (now tables) ⌝ }
     ensures { λ r. ⌜ answerOf r ≡ runAnswer (now (shop .entry)) (now (trace .entry)) (problemOf (OrderSheet.order (now (order .entry)))) ⌝ }
 {
-    let first = first::prepared(shop, order, tables);
-    run::run(shop, order, trace, tables, first)
+    let mut goals = Goals::empty();
+    first::begun(shop, order, tables, &mut goals.words);
+    let atoms = first::start(shop, order);
+    run::run(shop, order, trace, tables, State { atoms: atoms }, goals)
 }
 
 // The same, with tables of the largest sheet's size.

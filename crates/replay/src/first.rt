@@ -6,11 +6,16 @@ use network::enter::Network;
 use network::waiting::Name;
 use network::waiting::Place;
 use network::waiting::Waiting;
+use predecessors::goals::Entering;
+use predecessors::goals::Goals;
+use predecessors::goals::begin;
 use reading::position::Sheet;
 use reading::tag;
 use scan::rows::Row;
 use scan::rows::word;
 use sheets::check::Order;
+use sheets::sizes::OrderSizes;
+use sheets::sizes::ShopSizes;
 use spans::index;
 use spans::index::Span;
 use steps::problem::Problem;
@@ -20,13 +25,15 @@ ghost use lib.ListN.{length};
 ghost use Rattle.hgn.specs.Rows.{mostRows};
 ghost use Rattle.hgn.specs.Shop.{mostActions, mostMethods};
 ghost use Rattle.hgn.specs.Run.{startOf};
-ghost use Rattle.hgn.specs.Network.{goalsOf};
+ghost use Rattle.hgn.specs.Network.{mostWaiting, goalsOf};
 ghost use Rattle.hgn.specs.Order as OrderSheet;
 ghost use Rattle.hgn.specs.Questions.{passed};
 ghost use Rattle.network.specs.Entries.{listOf};
 ghost use Rattle.spans.specs.Tables.{Indexed};
 ghost use Rattle.spans.specs.declared.index.Span.{Span};
+ghost use Rattle.predecessors.specs.Goals.{goalsWords};
 ghost use Rattle.replay.specs.OrderTable.{OrderIndexed, firstRow};
+ghost use Rattle.replay.specs.Taking.{FirstGoals};
 
 // The row at which the order's first node begins, or its end. If row 0 is no node, it belongs to no part, and the table says where the
 // next part begins.
@@ -45,7 +52,7 @@ fn first_node(order: &[u16], tables: &[u16]) -> Row
 // The order's goals, in listed order.
 pub fn goals<'a>(shop: &'a [u16], order: &'a [u16], tables: &[u16]) -> Waiting
     requires { ⌜ OrderIndexed (now shop) (now order) (now tables) ⌝ }
-    ensures { λ r. ⌜ (listOf (now (shop .entry)) (now (order .entry)) r ≡ goalsOf (OrderSheet.order (now (order .entry)))) × (r .count ≤ 64) ⌝ }
+    ensures { λ r. ⌜ (listOf (now (shop .entry)) (now (order .entry)) r ≡ goalsOf (OrderSheet.order (now (order .entry)))) × (r .count ≤ mostWaiting) ⌝ }
 {
     let network = Network {
         sheet: Sheet::Order,
@@ -84,7 +91,7 @@ pub fn start<'a>(shop: &'a [u16], order: &'a [u16]) -> [bool; 256]
 pub fn first<'a>(shop: &'a [u16], order: &'a [u16], tables: &[u16]) -> Problem
     requires { ⌜ OrderIndexed (now shop) (now order) (now tables) ⌝ }
     ensures { λ r. ⌜ r .atoms ≡ startOf (OrderSheet.order (now (order .entry))) ⌝ }
-    ensures { λ r. ⌜ (listOf (now (shop .entry)) (now (order .entry)) (r .waiting) ≡ goalsOf (OrderSheet.order (now (order .entry)))) × (r .waiting .count ≤ 64) ⌝ }
+    ensures { λ r. ⌜ (listOf (now (shop .entry)) (now (order .entry)) (r .waiting) ≡ goalsOf (OrderSheet.order (now (order .entry)))) × (r .waiting .count ≤ mostWaiting) ⌝ }
 {
     let atoms = start(shop, order);
     let waiting = goals(shop, order, tables);
@@ -94,19 +101,78 @@ pub fn first<'a>(shop: &'a [u16], order: &'a [u16], tables: &[u16]) -> Problem
     }
 }
 
+// The table of the order, for its goals.
+fn index_order<'a>(shop: &'a [u16], order: &'a [u16], tables: &mut [u16])
+    requires { ⌜ (OrderSheet.checkOrder (now shop) (now order) ≡ passed) × (mostRows + suc (mostActions + mostMethods) ≤ length (now tables)) ⌝ }
+    ensures { λ _. ⌜ OrderIndexed (now (shop .entry)) (now (order .entry)) (now (tables .exit)) × (length (now (tables .exit)) ≡ length (now (tables .entry))) ⌝ }
+{
+    let rows = index::layout_of(Sheet::Order, order);
+    index::fill(order, rows, tables, 0);
+}
+
+// The table of the shop.
+fn index_shop<'a>(shop: &'a [u16], order: &'a [u16], tables: &mut [u16])
+    requires { ⌜ (OrderSheet.checkOrder (now shop) (now order) ≡ passed) × (mostRows + suc (mostActions + mostMethods) ≤ length (now tables)) ⌝ }
+    ensures { λ _. ⌜ Indexed (now (shop .entry)) (now (order .entry)) (now (tables .exit)) ⌝ }
+{
+    let sizes = ShopSizes::of(shop);
+    let operators = sizes.actions as usize + sizes.methods as usize;
+    let rows = index::layout_of(Sheet::Shop, shop);
+    index::fill(shop, rows, tables, operators);
+}
+
 // The first record, with the table filled: first the order's, for its goals, then the shop's.
 pub fn prepared<'a>(shop: &'a [u16], order: &'a [u16], tables: &mut [u16]) -> Problem
     requires { ⌜ OrderSheet.checkOrder (now shop) (now order) ≡ passed ⌝ }
     requires { ⌜ mostRows + suc (mostActions + mostMethods) ≤ length (now tables) ⌝ }
     ensures { λ _. ⌜ Indexed (now (shop .entry)) (now (order .entry)) (now (tables .exit)) ⌝ }
     ensures { λ r. ⌜ r .atoms ≡ startOf (OrderSheet.order (now (order .entry))) ⌝ }
-    ensures { λ r. ⌜ (listOf (now (shop .entry)) (now (order .entry)) (r .waiting) ≡ goalsOf (OrderSheet.order (now (order .entry)))) × (r .waiting .count ≤ 64) ⌝ }
+    ensures { λ r. ⌜ (listOf (now (shop .entry)) (now (order .entry)) (r .waiting) ≡ goalsOf (OrderSheet.order (now (order .entry)))) × (r .waiting .count ≤ mostWaiting) ⌝ }
 {
-    let order_rows = index::layout_of(Sheet::Order, order);
-    index::fill(order, order_rows, tables, 0);
+    index_order(shop, order, tables);
     let problem = first(shop, order, tables);
-    let blocks = word(shop, 1) as usize + word(shop, 2) as usize;
-    let shop_rows = index::layout_of(Sheet::Shop, shop);
-    index::fill(shop, shop_rows, tables, blocks);
+    index_shop(shop, order, tables);
     problem
+}
+
+// The order's goals, in listed order, are all that waits.
+fn write_goals<'a>(
+    shop: &'a [u16],
+    order: &'a [u16],
+    tables: &[u16],
+    goals: &mut [u16; Goals::WORDS],
+)
+    requires { ⌜ OrderIndexed (now shop) (now order) (now tables) × (length (now goals) ≡ goalsWords) ⌝ }
+    ensures { λ _. ⌜ FirstGoals (now (shop .entry)) (now (order .entry)) (now (goals .exit)) ⌝ }
+{
+    let first = first_node(order, tables);
+    let sizes = OrderSizes::of(order);
+    let network = Entering {
+        origin: Waiting::ORDER,
+        parent: Name {
+            origin: Waiting::ORDER,
+            number: 0,
+        },
+        method: false,
+        first: first,
+        end: Row(sizes.rows),
+        count: sizes.goals,
+    };
+    begin(shop, order, tables, goals, network);
+}
+
+// The order's goals are all that waits, and the table is filled: first the order's, for its goals, then the shop's.
+pub fn begun<'a>(
+    shop: &'a [u16],
+    order: &'a [u16],
+    tables: &mut [u16],
+    goals: &mut [u16; Goals::WORDS],
+)
+    requires { ⌜ OrderSheet.checkOrder (now shop) (now order) ≡ passed ⌝ }
+    requires { ⌜ (mostRows + suc (mostActions + mostMethods) ≤ length (now tables)) × (length (now goals) ≡ goalsWords) ⌝ }
+    ensures { λ _. ⌜ Indexed (now (shop .entry)) (now (order .entry)) (now (tables .exit)) × FirstGoals (now (shop .entry)) (now (order .entry)) (now (goals .exit)) ⌝ }
+{
+    index_order(shop, order, tables);
+    write_goals(shop, order, tables, goals);
+    index_shop(shop, order, tables);
 }

@@ -5,3 +5,4 @@ pub mod call;
 pub mod first;
 pub mod plan;
 pub mod run;
+pub mod taking;

@@ -1,133 +1,112 @@
 // The run of a trace's steps. Document 01, "How a derivation runs".
 use crate::answer::Answer;
+use crate::taking;
+use crate::taking::Step;
 use formulas::state::State;
-use freeness::free::Seen;
-use network::waiting::Entry;
 use network::waiting::Place;
-use network::waiting::Waiting;
-use predecessors::kept::fill;
-use predecessors::listed::times_listed;
-use predecessors::moved::decomposed;
+use predecessors::goals;
+use predecessors::goals::Goals;
 use reading::refusal::Refusal;
 use scan::rows::word;
+use sheets::check::Trace;
+use sheets::sizes::TraceSizes;
 use spans::operators;
 use steps::moves::Move;
-use steps::problem::Problem;
-use steps::problem::act;
 use steps::questions::Decision;
-use steps::questions::decide;
-use steps::questions::told;
 ghost use mathlib.Core.Path.{_≡_};
-ghost use Prim.Native.Nat.{_≤_, _<_, _+_, _-_};
+ghost use mathlib.Core.List.{List};
+ghost use Prim.Native.Nat.{ℕ, _≤_, _+_, _*_};
 ghost use lib.ListN.{length};
-ghost use Rattle.hgn.specs.Network.{goalsOf};
-ghost use Rattle.hgn.specs.Order as OrderSheet;
-ghost use Rattle.hgn.specs.Trace.{stepCount};
-ghost use Rattle.network.specs.Entries.{listOf, entriesOf};
+ghost use Rattle.hgn.specs.Shop.{actionCount, methodCount};
+ghost use Rattle.hgn.specs.Trace.{mostSteps, stepCount};
 ghost use Rattle.spans.specs.Tables.{Indexed};
-ghost use Rattle.steps.specs.Steps.{problemIn};
+ghost use Rattle.steps.specs.Moves.{Known};
+ghost use Rattle.predecessors.specs.Goals.{countIn};
 ghost use Rattle.replay.specs.Answers.{answerOf, runAnswer, endAnswer};
+ghost use Rattle.replay.specs.Taking.{problemWith, mostCost, FirstGoals, TotalWith};
 
-// The steps of a trace from the first record on.
+// How many actions were taken, and the sum of their costs.
+pub struct Totals {
+    pub count: u16,
+    pub cost: u32,
+}
+
+impl Totals {
+    // With what a move adds.
+    fn with(self, shop: &[u16], tables: &[u16], known: Move) -> Totals
+        requires { ⌜ ((order : List ℕ) × Indexed (now shop) order (now tables)) × Known (actionCount (now shop)) (methodCount (now shop)) known ⌝ }
+        requires { ⌜ (self .count ≤ mostSteps) × (self .cost ≤ mostCost * mostSteps) ⌝ }
+        ensures { λ r. ⌜ TotalWith (now (shop .entry)) known self r ⌝ }
+    {
+        match known {
+            Move::Release => self,
+            Move::Act(action) => {
+                let price = operators::action_cost(shop, tables, action);
+                Totals {
+                    count: self.count + 1,
+                    cost: self.cost + price as u32,
+                }
+            }
+            Move::Use(method) => self,
+        }
+    }
+}
+
+// The steps of a trace from a state on, with the order's goals waiting.
 pub fn run<'a>(
     shop: &'a [u16],
     order: &'a [u16],
     trace: &[u16],
     tables: &[u16],
-    first: Problem,
+    first: State,
+    goals: Goals,
 ) -> Answer
-    requires { ⌜ Indexed (now shop) (now order) (now tables) ⌝ }
-    requires { ⌜ (1 + (stepCount (now trace) + stepCount (now trace)) ≤ length (now trace)) × (stepCount (now trace) ≤ 4096) ⌝ }
-    requires { ⌜ (first .waiting .count ≤ 64) × (listOf (now shop) (now order) (first .waiting) ≡ goalsOf (OrderSheet.order (now order))) ⌝ }
-    ensures { λ r. ⌜ answerOf r ≡ runAnswer (now (shop .entry)) (now (trace .entry)) (problemIn (now (shop .entry)) (now (order .entry)) first) ⌝ }
+    requires { ⌜ Indexed (now shop) (now order) (now tables) × FirstGoals (now shop) (now order) (goals .words) ⌝ }
+    requires { ⌜ (1 + (stepCount (now trace) + stepCount (now trace)) ≤ length (now trace)) × (stepCount (now trace) ≤ mostSteps) ⌝ }
+    ensures { λ r. ⌜ answerOf r ≡ runAnswer (now (shop .entry)) (now (trace .entry)) (problemWith (now (shop .entry)) (now (order .entry)) (first .atoms) (goals .words)) ⌝ }
 {
-    let steps = word(trace, 0) as usize;
-    // State and list apart, so that a step that changes the one does not copy the other.
+    let sizes = TraceSizes::of(trace);
+    let steps = sizes.steps as usize;
     let mut atoms = first.atoms;
-    let mut waiting = first.waiting;
-    let mut counts = [0usize; Waiting::MOST as usize];
-    fill(shop, order, &mut counts, waiting, 0, waiting.count as usize);
-    let mut count: u16 = 0;
-    let mut cost: u32 = 0;
+    let mut waiting = goals.words;
+    let mut totals = Totals { count: 0, cost: 0 };
     let mut i: usize = 0;
     while i < steps {
         let number = i as u16;
-        let mv = word(trace, 1 + i);
-        let place = Place(word(trace, 1 + steps + i));
-        i += 1;
-        let at = place.0 as usize;
-        let mut goal = Entry::none();
-        let mut free = false;
-        if place.0 < waiting.count {
-            goal = waiting.entries[at];
-            free = counts[at] == 0;
-        }
-        let seen = Seen {
-            goal: goal,
-            free: free,
+        let step = Step {
+            number: number,
+            mv: word(trace, Trace::SIZES + i),
+            place: Place(word(trace, Trace::SIZES + steps + i)),
         };
-        let decision = decide(shop, order, tables, &atoms, seen, waiting.count, mv, place);
+        i += 1;
+        let decision = taking::take(shop, order, tables, &mut atoms, &mut waiting, step);
         match decision {
             Decision::Refused(refusal) => {
-                return Answer::refused(told(shop, order, waiting, refusal).at(number));
+                return Answer::refused(refusal.at(number));
             }
-            Decision::Takes(known) => match known {
-                Move::Release => {
-                    // As `Waiting::released` does, but on the list where it stands: one that is handed over is copied.
-                    let last = waiting.count as usize - 1;
-                    let mut here = at;
-                    while here < last {
-                        let later = waiting.entries[here + 1];
-                        counts[here] = counts[here + 1] - times_listed(shop, order, later, goal);
-                        waiting.entries[here] = later;
-                        here += 1;
-                    }
-                    waiting.count -= 1;
-                }
-                Move::Act(action) => {
-                    act(&mut atoms, shop, order, tables, action);
-                    let price = operators::action_cost(shop, tables, action);
-                    count += 1;
-                    cost += price as u32;
-                }
-                Move::Use(method) => {
-                    let parent = goal.name;
-                    let next = decomposed(
-                        shop,
-                        order,
-                        tables,
-                        &mut counts,
-                        waiting,
-                        number,
-                        method,
-                        parent,
-                        place,
-                    );
-                    waiting = next;
-                }
-            },
+            Decision::Takes(known) => {
+                totals = totals.with(shop, tables, known);
+            }
         }
     }
-    let problem = Problem {
-        atoms: atoms,
-        waiting: waiting,
-    };
-    ended(problem, steps as u16, count, cost)
+    ended(
+        State { atoms: atoms },
+        goals::count_of(&waiting),
+        sizes.steps,
+        totals,
+    )
 }
 
 // After the last step: nothing waiting? 33.
-fn ended(problem: Problem, steps: u16, count: u16, cost: u32) -> Answer
-    requires { ⌜ problem .waiting .count ≤ 64 ⌝ }
-    ensures { λ r. ⌜ answerOf r ≡ endAnswer steps (problem .atoms) (length (entriesOf (problem .waiting))) count cost ⌝ }
+fn ended(state: State, waiting: u16, steps: u16, totals: Totals) -> Answer
+    ensures { λ r. ⌜ answerOf r ≡ endAnswer steps (state .atoms) waiting (totals .count) (totals .cost) ⌝ }
 {
-    let waiting = problem.waiting;
-    if waiting.count == 0 {
-        let atoms = problem.atoms;
+    if waiting == 0 {
         return Answer {
             refusal: Refusal::none().at(steps),
-            state: State { atoms: atoms },
-            count: count,
-            cost: cost,
+            state: state,
+            count: totals.count,
+            cost: totals.cost,
         };
     }
     Answer::refused(Refusal::by(33).at(steps))

@@ -183,6 +183,7 @@ module _ {shop order table : List ℕ} (ix : Indexed shop order table) where
           bs = w .list;
           walk = w .walked;
           nodes = nodes;
+          inside = omega (arith, l .1, shop-length shop (shop-passes ix), indexable ix .few);
           some = omega (arith, long, size .0);
           few = omega (arith, long, size .1);
           goal = λ init last e.

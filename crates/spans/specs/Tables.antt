@@ -6,6 +6,7 @@ use mathlib.Core.Logic.{_≢_}
 use mathlib.Core.List.{List, [], _∷_, _++_, map}
 use lib.ListN.{length, take, getD}
 use Rattle.hgn.specs.Questions.{passed}
+use Rattle.hgn.specs.Rows.{mostRows}
 use Rattle.hgn.specs.Tag as Tag
 use Rattle.hgn.specs.Meaning.{Node, literals, nodeOf, goalOf}
 use Rattle.hgn.specs.Run.{methodAt}
@@ -49,6 +50,7 @@ pub record MethodAt (shop order table : List ℕ) (m : ℕ) (r : MethodRows) : T
   pub bs : List Bounds
   pub walk : Walk table (r .end .0) (r .first .0) bs
   pub nodes : map (nodeAt shop order Of.Shop) bs ≡ methodAt (domain shop) m .nodes
+  pub inside : r .end .0 ≤ mostRows
   pub some : 1 ≤ length bs
   pub few : length bs ≤ mostNodes
   pub goal : (init : List Bounds) (last : ℕ) → bs ≡ init ++ (record { from = last; to = r .end .0 } ∷ [])

@@ -1,4 +1,4 @@
--- The first record and the tables, then the run. Assumes nothing.
+-- The order's goals and the table, then the run. Assumes nothing.
 use mathlib.Core.Path.{_∙_, ap₂}
 use mathlib.Core.List.{List}
 use borrow.Author.Needs.{needs}
@@ -15,26 +15,27 @@ pub run-indexed-spec : {M : Type 1} → statement M
 run-indexed-spec =
     tie.close
     (tie.spec
-    -- prepared-requires
+    -- empty-requires
+    (λ c κs. search needs)
+    -- begun-requires
     (λ c κs.
-    let s = c .before .before .before .before .before in
-    (order-of-trace (s .args .shop .now) (s .args .order .now) (s .args .trace .now) (s .pre .0), s .pre .1))
+    let s = c .before .before .before .before .before .before .before in
+    (order-of-trace (s .args .shop .now) (s .args .order .now) (s .args .trace .now) (s .pre .0), (s .pre .1, c .before .before .empty .ensures .0 .size)))
+    -- start-requires
+    (λ c κs.
+    let s = c .before .before .before .before .before .before .before .before .before .before in
+    order-of-trace (s .args .shop .now) (s .args .order .now) (s .args .trace .now) (s .pre .0))
     -- run-requires
     (λ c κs.
-    let p = c .before .before .before in
-    let s = p .before .before .before .before .before .before in (
-      p .prepared .ensures .0,
-      (
-        trace-sizes (s .args .shop .now) (s .args .order .now) (s .args .trace .now) (s .pre .0),
-        (p .prepared .ensures .1 .1 .1, p .prepared .ensures .1 .1 .0),
-      ),
-    ))
+    let b = c .before .before .before .before in
+    let s = b .before .before .before .before .before .before .before .before in
+    ((b .begun .ensures .0, b .begun .ensures .1), trace-sizes (s .args .shop .now) (s .args .order .now) (s .args .trace .now) (s .pre .0)))
     -- same-length
     (λ c. search needs)
     -- returns
     (λ c.
-    let p = c .before .before .before .before in
-    let s = p .before .before .before .before .before .before in
+    let b = c .before .before .before .before .before in
+    let s = b .before .before .before .before .before .before .before .before in
     c .run .ensures
     ∙ ap₂ {C = Replay.Answer} (λ (st : State) (w : List Waiting). runAnswer (s .args .shop .now) (s .args .trace .now) (record { state = st; waiting = w }))
-    (p .prepared .ensures .1 .0) (p .prepared .ensures .1 .1 .0)))
+    (c .before .before .start .ensures) (b .begun .ensures .1 .list)))
