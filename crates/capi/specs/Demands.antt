@@ -30,7 +30,7 @@ replayedIn plan answer atoms = record {
 abbrev pub searchedIn : List ℕ → List ℕ → Searched
 searchedIn room answer = record { refusal = refusalIn answer; room = room }
 
--- Of the replay's call. What is read is the definition's record; so on sheets that pass, with room enough, it is one of the replays of
+-- What a caller of the replay may rely on. What is read is the definition's record; so on sheets that pass, with room enough, it is one of the replays of
 -- which hgn's `Demand3OfReplays` speaks.
 pub record OfReplay (shop sheet trace room plan answer atoms : List ℕ) : Type 0 where
   pub is : replayedIn plan answer atoms ≡ replay shop sheet trace room
@@ -39,7 +39,7 @@ pub record OfReplay (shop sheet trace room plan answer atoms : List ℕ) : Type 
   pub demand-3 : InputsPass shop sheet trace room
       → (k : Call shop sheet trace) × (k .result ≡ replayedIn plan answer atoms) × (k .room ≡ room)
 
--- Of the search's call.
+-- What a caller of the search may rely on.
 pub record OfSearch (shop sheet : List ℕ) (depth : ℕ) (room left answer : List ℕ) : Type 0 where
   pub is : searchedIn left answer ≡ search shop sheet depth room
   pub demand-1 : SearchAnswers shop sheet depth room (searchedIn left answer)

@@ -8,7 +8,7 @@ use search::call::search;
 use sheets::check::Trace;
 use sheets::sizes::TraceSizes;
 
-// So many words of a room, or none where it has fewer.
+// The words of a room from `from` on, so many, or none where it has fewer.
 fn part(room: &[u16], from: usize, length: usize) -> &[u16] {
     if from <= room.len() {
         if length <= room.len() - from {

@@ -90,7 +90,8 @@ module _ (shop sheet : List ℕ) where
           ∙ sym (run-cons (stepped (rulesOf shop)) n (problemIn shop sheet b) x xs ∙ ap (resumed (stepped (rulesOf shop)) n xs) e)
       go (taken deed P) e h =
           let t = comes n b x (cs .0) (taken deed P) e in
-          both-on (λ (o : Outcome) (u : Unit {0}). o ≡ run (rulesOf shop) n (problemIn shop sheet b) (x ∷ xs)) _ tt (cs .0 .answer .number) _ (λ z. tt) (ap (λ (q : Questions.Refusal). q .number) (t .0))
+          both-on (λ (o : Outcome) (u : Unit {0}). o ≡ run (rulesOf shop) n (problemIn shop sheet b) (x ∷ xs)) _ tt (cs .0 .answer .number) _
+          (λ z. tt) (ap (λ (q : Questions.Refusal). q .number) (t .0))
           (λ z. ap₂ {C = Outcome} prepend (did n b x (cs .0) deed P e)
           (h z ∙ ap (λ (Q : Run.Problem). run (rulesOf shop) (suc n) Q xs) (t .1))
           ∙ sym (run-cons (stepped (rulesOf shop)) n (problemIn shop sheet b) x xs ∙ ap (resumed (stepped (rulesOf shop)) n xs) e))

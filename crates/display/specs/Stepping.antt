@@ -29,7 +29,7 @@ unfoldable pub Calls : List ℕ → List ℕ → ℕ → Problem → List Step �
 Calls shop sheet n b [] = Unit {0}
 Calls shop sheet n b (x ∷ xs) = (c : Call shop sheet n x b) × (c .answer .number ≡ 0 → Calls shop sheet (suc n) (c .after) xs)
 
--- Where a step answers 0 it goes on as said; at any other number that is all.
+-- Stepping goes on as `next` says where a step answers 0, and ends at any other number.
 unfoldable pub onward : {A : Type 0} → A → (number : ℕ) → (number ≡ 0 → A) → A
 onward here zero next = next refl
 onward here (suc number) next = here
@@ -50,7 +50,7 @@ leftBy shop sheet n b [] cs = b
 leftBy shop sheet n b (x ∷ xs) cs =
     onward (cs .0 .after) (cs .0 .answer .number) (λ e. leftBy shop sheet (suc n) (cs .0 .after) xs (cs .1 e))
 
--- On sheets that pass with room enough, from the order's first record.
+-- What stepping through a trace shows, on sheets that pass with room enough, from the order's first record.
 pub record ShowsReplay (shop sheet trace room : List ℕ) (c : Replayed) (b : Problem) (cs : Calls shop sheet 0 b (stepsOf trace)) : Type 0 where
   -- Stepping through a trace tells exactly what the replay answers and writes: the same refusal at the same step, or, with nothing waiting
   -- at the end, its state, plan and cost. The display itself shows refusals and a record; plan and cost are those of the moves that it was

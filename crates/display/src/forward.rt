@@ -44,14 +44,14 @@ pub fn step_forward<'a>(
     refusal_of(stepped)
 }
 
-// The two put together.
+// A step that was shown is the refusal with the record that is left.
 fn made(refusal: Refusal, problem: Problem) -> Stepped
     ensures { λ r. ⌜ (r .refusal ≡ refusal) × (r .problem ≡ problem) ⌝ }
 {
     Stepped { refusal, problem }
 }
 
-// The same on a record that is handed over and handed back, for covered functions, which hold no reference to a record.
+// A step forward from a record that is handed over, and handed back changed: covered functions hold no reference to a record.
 pub fn show_step<'a>(
     problem: Problem,
     shop: &'a [u16],

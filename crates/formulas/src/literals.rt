@@ -112,7 +112,8 @@ fn wanted_in(
     value: u16,
     same: bool,
 ) -> bool
-    ensures { λ r. ⌜ r ≡ any (λ l. contains (literals «yes» «no» (zipWith row (now («effect_tags» .entry)) (now («effect_values» .entry)))) (sameOrOpposite same l)) (literals wantedTrue wantedFalse (row tag value ∷ [])) ⌝ }
+    ensures { λ r. ⌜ r ≡ any (λ l. contains (literals «yes» «no» (zipWith row (now («effect_tags» .entry)) (now («effect_values» .entry))))
+        (sameOrOpposite same l)) (literals wantedTrue wantedFalse (row tag value ∷ [])) ⌝ }
 {
     if tag == tag::WANTED_TRUE {
         return contained(effect_tags, effect_values, yes, no, Atom(value), same);
@@ -133,7 +134,8 @@ pub fn is_relevant(
     tags: &[u16],
     values: &[u16],
 ) -> bool
-    ensures { λ r. ⌜ r ≡ relevant (literals «yes» «no» (zipWith row (now («effect_tags» .entry)) (now («effect_values» .entry)))) (nodeOf (zipWith row (now (tags .entry)) (now (values .entry))) .formula) ⌝ }
+    ensures { λ r. ⌜ r ≡ relevant (literals «yes» «no» (zipWith row (now («effect_tags» .entry)) (now («effect_values» .entry))))
+        (nodeOf (zipWith row (now (tags .entry)) (now (values .entry))) .formula) ⌝ }
 {
     let n = part::rows(tags, values);
     // The row stands in an alternative; none does before the first 8.

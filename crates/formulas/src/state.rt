@@ -55,7 +55,7 @@ pub fn assign(atoms: &mut [bool], tags: &[u16], values: &[u16], tag: u16, to: bo
     }
 }
 
-// The same, of a state by value.
+// A copy of the atoms in which those of the rows with this tag are put in (true) or taken out (false).
 pub fn assigned(atoms: [bool; 256], tags: &[u16], values: &[u16], tag: u16, to: bool) -> [bool; 256]
     ensures { λ r. ⌜ r ≡ assign to (valuesOf tag (zipWith row (now (tags .entry)) (now (values .entry)))) atoms ⌝ }
 {

@@ -66,7 +66,8 @@ fn after_tags(tags: &[u16]) -> &[u16]
 // The goal, whose 11 rows are these, comes after the node of its network with this number: by its 11 rows, or as its method's last
 // node.
 fn comes_after_node(tags: &[u16], values: &[u16], goal: Entry, number: u16) -> bool
-    ensures { λ r. ⌜ ((shop order : List ℕ) → valuesOf 11 (zipWith row (now (tags .entry)) (now (values .entry))) ≡ valuesOf 11 (spanRows shop order (goal .rows)) → r ≡ among number (waitingOf shop order goal .after)) ⌝ }
+    ensures { λ r. ⌜ ((shop order : List ℕ) → valuesOf 11 (zipWith row (now (tags .entry)) (now (values .entry)))
+        ≡ valuesOf 11 (spanRows shop order (goal .rows)) → r ≡ among number (waitingOf shop order goal .after)) ⌝ }
 {
     let name = goal.name;
     if goal.last {
@@ -78,7 +79,8 @@ fn comes_after_node(tags: &[u16], values: &[u16], goal: Entry, number: u16) -> b
 // The goal, whose 11 rows are these, comes after the other: in their network, or because the other came with a method used at the
 // goal.
 fn comes_after(tags: &[u16], values: &[u16], goal: Entry, other: Entry) -> bool
-    ensures { λ r. ⌜ ((shop order : List ℕ) → valuesOf 11 (zipWith row (now (tags .entry)) (now (values .entry))) ≡ valuesOf 11 (spanRows shop order (goal .rows)) → r ≡ comesAfter (waitingOf shop order goal) (waitingOf shop order other)) ⌝ }
+    ensures { λ r. ⌜ ((shop order : List ℕ) → valuesOf 11 (zipWith row (now (tags .entry)) (now (values .entry)))
+        ≡ valuesOf 11 (spanRows shop order (goal .rows)) → r ≡ comesAfter (waitingOf shop order goal) (waitingOf shop order other)) ⌝ }
 {
     let name = goal.name;
     let theirs = other.name;

@@ -18,9 +18,23 @@ use Rattle.hgn.specs.Search as Search
 use Rattle.hgn.specs.Replay.{refusal, acceptance, reported, inputQuestions, checkReplay, replay}
 
 pub marked-cases : MarkedCases
-unfolding any all keep upTo parts among below shopFollow orderFollow contextAfter begins leastHere advance inRange rises rowsOf valuesOf literals nodeOf nodesOf firstValue actionOf methodOf headed domainOf orderOf lastOf goalOf lastAfterAll networkOf emptyState assign literalHolds allHold formulaHolds atomsOf γ contains relevant sameOrigin sameName isParent comesAfter free anyFree enter goalsOf released decomposed Run.moveOf Run.known Run.moved Run.ownQuestions Run.stepQuestions Run.deedOf Run.stepped Run.prepend Run.endQuestions Run.ended Run.runBy Run.planOf Run.startOf Run.costOf allAt firstNo rowQuestions positionAfter Shop.shopRows Shop.domain Shop.sizesInRange Shop.nodeRules Shop.methodQuestions Shop.shopEndQuestions Shop.shopQuestions Order.orderRows Order.order Order.sizesInRange Order.orderEndQuestions Order.orderQuestions stepsOf traceQuestions refusal acceptance reported inputQuestions checkReplay replay zipWith flatten headD
+unfolding any all keep upTo parts among below shopFollow orderFollow contextAfter begins leastHere advance inRange rises rowsOf valuesOf literals
+    nodeOf nodesOf firstValue actionOf methodOf headed domainOf orderOf lastOf goalOf lastAfterAll networkOf emptyState assign literalHolds allHold
+    formulaHolds atomsOf γ contains relevant sameOrigin sameName isParent comesAfter free anyFree enter goalsOf released decomposed Run.moveOf
+    Run.known Run.moved Run.ownQuestions Run.stepQuestions Run.deedOf Run.stepped Run.prepend Run.endQuestions Run.ended Run.runBy Run.planOf
+    Run.startOf Run.costOf allAt firstNo rowQuestions positionAfter Shop.shopRows Shop.domain Shop.sizesInRange Shop.nodeRules Shop.methodQuestions
+    Shop.shopEndQuestions Shop.shopQuestions Order.orderRows Order.order Order.sizesInRange Order.orderEndQuestions Order.orderQuestions stepsOf
+    traceQuestions refusal acceptance reported inputQuestions checkReplay replay zipWith flatten headD
 marked-cases = refl
 
 pub question-cases : QuestionCases
-unfolding any all keep upTo parts among below shopFollow orderFollow contextAfter begins leastHere advance inRange rises rowsOf valuesOf literals nodeOf nodesOf firstValue actionOf methodOf headed domainOf orderOf lastOf goalOf lastAfterAll networkOf emptyState assign literalHolds allHold formulaHolds atomsOf γ contains relevant sameOrigin sameName isParent comesAfter free anyFree enter goalsOf released decomposed Run.moveOf Run.known Run.moved Run.ownQuestions Run.stepQuestions Run.deedOf Run.stepped Run.prepend Run.endQuestions Run.ended Run.runBy Run.planOf Run.startOf Run.costOf allAt firstNo rowQuestions positionAfter Shop.shopRows Shop.domain Shop.sizesInRange Shop.nodeRules Shop.methodQuestions Shop.shopEndQuestions Shop.shopQuestions Order.orderRows Order.order Order.sizesInRange Order.orderEndQuestions Order.orderQuestions stepsOf traceWords traceQuestions checkTrace refusal acceptance reported inputQuestions checkReplay replay zipWith flatten headD from firstSome Search.movesOf Search.stepsAt Search.candidates Search.noSteps Search.firstOf Search.firstShortest Search.isFound Search.stepsFound Search.searched Search.noTrace Search.written Search.searchQuestions Search.search repeated
+unfolding any all keep upTo parts among below shopFollow orderFollow contextAfter begins leastHere advance inRange rises rowsOf valuesOf literals
+    nodeOf nodesOf firstValue actionOf methodOf headed domainOf orderOf lastOf goalOf lastAfterAll networkOf emptyState assign literalHolds allHold
+    formulaHolds atomsOf γ contains relevant sameOrigin sameName isParent comesAfter free anyFree enter goalsOf released decomposed Run.moveOf
+    Run.known Run.moved Run.ownQuestions Run.stepQuestions Run.deedOf Run.stepped Run.prepend Run.endQuestions Run.ended Run.runBy Run.planOf
+    Run.startOf Run.costOf allAt firstNo rowQuestions positionAfter Shop.shopRows Shop.domain Shop.sizesInRange Shop.nodeRules Shop.methodQuestions
+    Shop.shopEndQuestions Shop.shopQuestions Order.orderRows Order.order Order.sizesInRange Order.orderEndQuestions Order.orderQuestions stepsOf
+    traceWords traceQuestions checkTrace refusal acceptance reported inputQuestions checkReplay replay zipWith flatten headD from firstSome
+    Search.movesOf Search.stepsAt Search.candidates Search.noSteps Search.firstOf Search.firstShortest Search.isFound Search.stepsFound
+    Search.searched Search.noTrace Search.written Search.searchQuestions Search.search repeated
 question-cases = record { sheets = refl; steps = refl; searches = refl }

@@ -18,7 +18,8 @@ use Rattle.hgn.specs.Questions as Questions
 use Rattle.hgn.specs.Meaning.{Node, networkOf}
 use Rattle.hgn.specs.State.{formulaHolds}
 use Rattle.hgn.specs.Network.{Waiting, step, comesAfter, free, anyFree, enter, goalAt, noGoal, released, decomposed}
-use Rattle.hgn.specs.Run.{Step, Move, release, act, use-method, unknown, moveOf, actionAt, methodAt, Problem, Rules, limited, moved, ownQuestions, stepQuestions, Deed, releases, takes, uses, deedOf, Stepped, refused, taken, stepped}
+use Rattle.hgn.specs.Run.{Step, Move, release, act, use-method, unknown, moveOf, actionAt, methodAt, Problem, Rules, limited}
+use Rattle.hgn.specs.Run.{moved, ownQuestions, stepQuestions, Deed, releases, takes, uses, deedOf, Stepped, refused, taken, stepped}
 use Rattle.hgn.proofs.Tests.{any-append, at-mem, at-of-lt}
 use Rattle.hgn.proofs.Steps.{step-refused, step-passed}
 

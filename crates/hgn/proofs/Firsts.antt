@@ -55,7 +55,7 @@ passed-append (q ∷ xs) ys e =
     let t = passed-append xs ys (r .1) in
     (first-yes q xs (r .0) ∙ t .0, t .1)
 
--- The same questions at a place.
+-- Questions that get a place have the same first no, at that place.
 
 unfoldable pub verdictAt : ℕ → Verdict → Verdict
 verdictAt n passed = passed

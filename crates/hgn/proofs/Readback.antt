@@ -134,7 +134,7 @@ module _ (t f : ℕ) (differ : eqb f t ≡ false) where
       sign true ih = rw (eq-eqb t t refl) (ap {B = List Literal} (λ ls. record { sign = true; atom = l .atom } ∷ ls) ih)
       sign false ih = rw (differ, eq-eqb f f refl) (ap {B = List Literal} (λ ls. record { sign = false; atom = l .atom } ∷ ls) ih)
 
-  -- The same with no rows behind.
+  -- The rows of a conjunct alone are read as its literals.
   conjunct-read : (c : List Literal) → literals t f (conjunctRows t f c) ≡ c
   unfolding any
   conjunct-read c = rw append-nil at (literals-read c [] refl)

@@ -17,7 +17,8 @@ use Rattle.hgn.specs.Questions as Questions
 use Rattle.hgn.specs.Meaning.{Node}
 use Rattle.hgn.specs.State.{State}
 use Rattle.hgn.specs.Network.{Origin, order, step, Name, Waiting, sameOrigin, sameName, isParent, comesAfter, enter}
-use Rattle.hgn.specs.Run.{Step, Problem, Rules, limited, stepQuestions, Deed, releases, takes, uses, planOf, Stepped, refused, taken, stepped, Outcome, stopped, accepted, prepend, endQuestions, ended, runBy, run}
+use Rattle.hgn.specs.Run.{Step, Problem, Rules, limited, stepQuestions, Deed, releases, takes, uses, planOf, Stepped}
+use Rattle.hgn.specs.Run.{refused, taken, stepped, Outcome, stopped, accepted, prepend, endQuestions, ended, runBy, run}
 use Rattle.hgn.specs.Join.{raised}
 use Rattle.hgn.proofs.Tests.{any-append, below-lt}
 use Rattle.hgn.proofs.Names.{Before, Fresh}
@@ -159,7 +160,7 @@ module _ (g : ℕ) (σ : ℕ → ℕ) where
       blocked = λ p k. elim k [ ];
     }
 
-    -- The same problem under the other names.
+    -- A problem whose goals have the other names.
     abbrev inNames : Problem → Problem
     inNames P = record { state = P .state; waiting = map rename (P .waiting) }
 

@@ -11,7 +11,8 @@ use borrow.Author.Tests.{leb-true, le-leb}
 use Rattle.hgn.specs.Questions.{Refusal, placed, allAt, Verdict, passed, refused, firstNo}
 use Rattle.hgn.specs.State.{State}
 use Rattle.hgn.specs.Network.{goalsOf, mostWaiting}
-use Rattle.hgn.specs.Run.{Step, moveOf, Problem, problemOf, Rules, moved, stepQuestions, Deed, planOf, stepped, Outcome, stopped, accepted, prepend, endQuestions, ended, runBy, run, runQuestions}
+use Rattle.hgn.specs.Run.{Step, moveOf, Problem, problemOf, Rules, moved, stepQuestions, Deed, planOf}
+use Rattle.hgn.specs.Run.{stepped, Outcome, stopped, accepted, prepend, endQuestions, ended, runBy, run, runQuestions}
 use Rattle.hgn.specs.Shop.{domain, shopQuestions}
 use Rattle.hgn.specs.Order.{order, orderQuestions}
 use Rattle.hgn.specs.Trace.{stepCount, step, stepsOf, traceQuestions, checkTrace}

@@ -11,7 +11,8 @@ use Rattle.hgn.specs.Questions as Questions
 use Rattle.hgn.specs.Meaning.{networkOf}
 use Rattle.hgn.specs.State.{γ, allHold, formulaHolds}
 use Rattle.hgn.specs.Network.{Waiting, step, free, anyFree, goalAt, noGoal, released, decomposed}
-use Rattle.hgn.specs.Run.{Step, Move, release, act, use-method, unknown, moveOf, known, actionAt, methodAt, Problem, Rules, moved, ownQuestions, stepQuestions, Deed, releases, deedOf, refused, taken, stepped}
+use Rattle.hgn.specs.Run.{Step, Move, release, act, use-method, unknown, moveOf, known, actionAt, methodAt}
+use Rattle.hgn.specs.Run.{Problem, Rules, moved, ownQuestions, stepQuestions, Deed, releases, deedOf, refused, taken, stepped}
 use Rattle.hgn.specs.Run as Run
 use Rattle.hgn.proofs.Tests.{true-any, at-of-lt, at-mem}
 use Rattle.hgn.proofs.Firsts.{passed-cons}

@@ -24,7 +24,7 @@ use Rattle.hgn.specs.Readings.{Reached}
 -- Demand 1. "Where a sheet, trace or depth is malformed in any way or lent room is too short, the public call gives the refusal number of
 -- document 01 for the first question it fails, writes nothing into lent memory, and stops."
 
--- Of a call that asks these questions and answers `a`: it refuses by the first no, and answers 0 where there is none. No question has the
+-- A call that asks these questions and answers `a` refuses by the first no, and answers 0 where there is none. No question has the
 -- number 0. `Untouched` is what a refusal leaves.
 pub record AnswersFirst (questions : List Question) (a : Refusal) (Untouched : Type 0) : Type 0 where
   pub refused-iff : (q : Refusal) → FirstNo questions q ↔ ((q .number ≢ 0) × (a ≡ q))
@@ -38,7 +38,7 @@ pub record Refuses (room : List ℕ) (c : Replayed) : Type 0 where
   pub cost : c .answer .cost ≡ 0
   pub unchanged : c .room ≡ room
 
--- Of a check of sheets, which is lent no memory to write into. "0 and 0 when passed."
+-- What a check of sheets answers, which is lent no memory to write into. "0 and 0 when passed."
 pub record CheckAnswers (questions : List Question) (a : Refusal) : Type 0 where
   pub first : AnswersFirst questions a (Unit {0})
   pub passed-place : a .number ≡ 0 → a .place ≡ 0
@@ -195,11 +195,11 @@ pub record Call (shop sheet trace : List ℕ) : Type 0 where
   pub inputs : InputsPass shop sheet trace room
   pub called : result ≡ replay shop sheet trace room
 
--- It accepts.
+-- The call accepts.
 abbrev pub Accepting : {shop sheet trace : List ℕ} → Call shop sheet trace → Type 0
 Accepting k = k .result .answer .refusal .number ≡ 0
 
--- Where it accepts, the plan: the first words of the room at exit.
+-- The plan of a call that accepts: the first words of the room at exit.
 abbrev pub planIn : {shop sheet trace : List ℕ} → Call shop sheet trace → List ℕ
 planIn k = take (k .result .answer .count) (k .result .room)
 
@@ -255,7 +255,7 @@ pub record JoinOfReplays (shop first second trace : List ℕ) : Type 0 where
   pub one-cut : (c e : ℕ) (p : Parts shop first second trace c) (q : Parts shop first second trace e)
       → BothAccept p → BothAccept q → c ≡ e
   pub results : (k : Whole shop first second trace) (c : ℕ) (p : Parts shop first second trace c) → BothAccept p → OneAfterOther k p
-  -- The same by the cut of orders and states.
+  -- Acceptance on the join by the cut of orders and states, which asks for no replay of the parts.
   pub cut-iff : (c : ℕ) (p : Parts shop first second trace c) → BothAccept p ↔ CutAt shop first second trace c
   pub accepted-cut : (k : Whole shop first second trace) → Accepting (k .call) ↔ ((c : ℕ) × CutAt shop first second trace c)
   -- "So where the two orders have more than 64 goals together, no trace is accepted on the join and no cut will do."
@@ -273,7 +273,7 @@ pub record CallsAreThere (shop first second trace : List ℕ) : Type 0 where
       → Whole shop first second trace
   pub parts : mostAtoms + rowCount second ≤ mostRows → (c : ℕ) → c ≤ stepCount trace → Parts shop first second trace c
 
--- Of any two orders and any trace that pass with the shop sheet.
+-- Demand 3 of the replays themselves, for any two orders and any trace that pass with the shop sheet.
 pub record Demand3OfReplays : Type 0 where
   pub join-of-replays : (shop first second trace : List ℕ)
       → checkTrace shop first trace ≡ passed → checkTrace shop second trace ≡ passed → JoinOfReplays shop first second trace

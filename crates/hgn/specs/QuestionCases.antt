@@ -24,7 +24,7 @@ ofShop shop number place = record { shop = shop; order = []; trace = []; number 
 abbrev pub ofOrder : List ℕ → ℕ → ℕ → SheetCase
 ofOrder order number place = record { shop = 1 ∷ 0 ∷ 0 ∷ 0 ∷ []; order = order; trace = []; number = number; place = place }
 
--- The same shop, an order without goals, and a trace that is refused.
+-- A shop of one atom and no rows, an order without goals, and a trace that is refused.
 abbrev pub ofTrace : List ℕ → ℕ → ℕ → SheetCase
 ofTrace trace number place = record { shop = 1 ∷ 0 ∷ 0 ∷ 0 ∷ []; order = 1 ∷ 0 ∷ 0 ∷ []; trace = trace; number = number; place = place }
 

@@ -23,11 +23,11 @@ infixl 68 _asks_ _askedAt_
 abbrev pub _asks_ : ℕ → Bool → Question
 number asks answer = record { refusal = record { number = number; place = 0 }; answer = answer }
 
--- The same refusal at a place: a row, a method, a step.
+-- A refusal keeps its number and gets a place: a row, a method, a step.
 abbrev pub placed : ℕ → Refusal → Refusal
 placed place r = record { number = r .number; place = place }
 
--- The same question at a place.
+-- A question keeps its number and its answer and gets a place.
 abbrev pub _askedAt_ : Question → ℕ → Question
 q askedAt place = record { refusal = placed place (q .refusal); answer = q .answer }
 
@@ -50,7 +50,7 @@ abbrev pub told : Verdict → Refusal
 told passed = noRefusal
 told (refused r) = r
 
--- The same by propositions: the first question of the list with the answer no gives this refusal.
+-- The refusal of the first question of the list with the answer no: `firstNo` as a proposition.
 pub data FirstNo : List Question → Refusal → Type 0 where
   here : {q : Question} {qs : List Question} → q .answer ≡ false → FirstNo (q ∷ qs) (q .refusal)
   later : {q : Question} {qs : List Question} {r : Refusal} → q .answer ≡ true → FirstNo qs r → FirstNo (q ∷ qs) r

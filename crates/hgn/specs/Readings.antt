@@ -42,7 +42,7 @@ pub record AcceptedIsDerivation : Type 1 where
 abbrev pub RefusedBy : ℕ → Stepped → Type 0
 RefusedBy number o = (q : Refusal) × (o ≡ refused q) × (q .number ≡ number)
 
--- Of a step, whatever its number and the problem.
+-- The order of a step's questions, whatever its number and the problem.
 pub record StepOrder (r : Rules) (n : ℕ) (P : Problem) (x : Step) : Type 0 where
   pub place-before-known : length (P .waiting) ≤ x .place → moveOf (r .domain) (x .move) ≡ unknown → RefusedBy 25 (stepped r n P x)
   pub known-before-any : x .place < length (P .waiting) → moveOf (r .domain) (x .move) ≡ unknown → anyFree (P .waiting) ≡ false
@@ -72,7 +72,7 @@ pub record StepOrder (r : Rules) (n : ℕ) (P : Problem) (x : Step) : Type 0 whe
       → r .mayUse (methodAt (r .domain) m) (goalAt (P .waiting) (x .place) .formula) ≡ false
       → r .limit < length (moved (r .domain) n P (x .place) (use-method m) .waiting) → RefusedBy 31 (stepped r n P x)
 
--- Of a replay: the sheets' questions first, shop, order, trace; 23 before 24, and 24 before 25.
+-- The order of a replay's questions: those of the sheets first, shop, order, trace; 23 before 24, and 24 before 25.
 pub record ReplayOrder (shop sheet trace room : List ℕ) : Type 0 where
   pub sheets-first : (q : Refusal) → checkTrace shop sheet trace ≡ Questions.refused q → replay shop sheet trace room .answer .refusal ≡ q
   pub size-before-room : checkOrder shop sheet ≡ passed → 1 ≤ length trace → stepCount trace ≤ mostSteps
@@ -82,7 +82,7 @@ pub record ReplayOrder (shop sheet trace room : List ℕ) : Type 0 where
       → (x : Step) (xs : List Step) → stepsOf trace ≡ x ∷ xs → length (order sheet .goals) ≤ x .place
       → replay shop sheet trace room .answer .refusal .number ≡ 24
 
--- Of a search: the sheets' questions first, so 18 before 41; 41 before 42, 42 before 43.
+-- The order of a search's questions: those of the sheets first, so 18 before 41; 41 before 42, 42 before 43.
 pub record SearchOrder (shop sheet : List ℕ) (depth : ℕ) (room : List ℕ) : Type 0 where
   pub sheets-first : (q : Refusal) → checkOrder shop sheet ≡ Questions.refused q → search shop sheet depth room .refusal ≡ q
   pub depth-before-room : checkOrder shop sheet ≡ passed → mostDepth < depth → length room < sizeWords + 2 * depth
@@ -177,7 +177,7 @@ pub record PlacesAre01s : Type 0 where
 pub record EndsInGoal (m : Method) : Type 0 where
   pub goal : lastOf (networkOf m) .formula ≡ goalOf m ∷ []
   pub after-others : lastOf (networkOf m) .after ≡ below (length (networkOf m) - 1)
-  -- Its other nodes are as listed.
+  -- A method's other nodes are as its rows list them.
   pub others : (init : List Node) (last : Node) → m .nodes ≡ init ++ (last ∷ [])
       → networkOf m ≡ init ++ (record { after = below (length init); formula = last .formula } ∷ [])
 

@@ -86,7 +86,7 @@ pub record Decided (r : Rules) : Type 0 where
   pub act-iff : (a : Action) (g : Formula) → (r .mayAct a g ≡ true) ↔ r .MayAct a g
   pub use-iff : (m : Method) (g : Formula) → (r .mayUse m g ≡ true) ↔ r .MayUse m g
 
--- The same rules with another limit.
+-- These rules with another limit on the goals that may wait.
 abbrev pub limited : ℕ → Rules → Rules
 limited limit r = record {
   domain = r .domain;

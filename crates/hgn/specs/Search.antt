@@ -38,7 +38,7 @@ unfoldable pub candidates : Domain → List Waiting → List Step
 unfolding flatten
 candidates d w = flatten (map (stepsAt d) (from 0 (length w)))
 
--- Where nothing waits, the trace of no steps.
+-- The trace of no steps, which solves a problem where nothing waits.
 unfoldable pub noSteps : List Waiting → Option (List Step)
 noSteps [] = some []
 noSteps (g ∷ w) = none

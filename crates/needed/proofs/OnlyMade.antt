@@ -183,7 +183,8 @@ module _ (d : Domain) where
 module _ {shop order tables : List ℕ} (ix : Indexed shop order tables) {n : ℕ} {table : List ℕ}
     (m : MadeTo (domain shop) n table) where
   -- The next action, by its rows.
-  pub makers-next : n < actionCount shop → (rows : Span) → actionAt (domain shop) (n + 1) ≡ actionOf (spanRows shop order rows) → {ts vs : List ℕ} → ts ≡ tagsOf rows shop order → vs ≡ valuesOf rows shop order
+  pub makers-next : n < actionCount shop → (rows : Span) → actionAt (domain shop) (n + 1) ≡ actionOf (spanRows shop order rows) → {ts vs : List ℕ}
+      → ts ≡ tagsOf rows shop order → vs ≡ valuesOf rows shop order
       → {r : List ℕ} → r ≡ marked (n + 1) (literals 5 6 (zipWith row ts vs)) table → MadeTo (domain shop) (n + 1) r
   unfolding spanRows
   makers-next h rows is a b e =

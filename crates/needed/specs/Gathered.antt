@@ -1,4 +1,4 @@
--- The needed moves found so far. Not to be believed: what is proved of the bound is a lemma of `pruning`.
+-- The needed moves found so far. No reader needs to trust this page: a statement of `pruning` says what the bound is for.
 use Prim.Native.Nat.{ℕ, suc, _+_, _-_, _≤_, _<_}
 use mathlib.Core.Path.{_≡_}
 use mathlib.Core.Bool.{true, false, cond}
@@ -31,7 +31,7 @@ movesFound d g = map (moveOfBlock d) (found g)
 abbrev pub problemAt : List ℕ → List ℕ → State → Waiting → Problem
 problemAt shop order s w = record { state = s; waiting = listOf shop order w }
 
--- The moves found are needed and different, what they weigh is not said too high, and each is marked.
+-- The moves found are needed, different and marked, and `weight` is at most the number of steps that they take together.
 pub record Holds (r : Rules) (P : Problem) (g : Gathered) : Type 0 where
   pub within : (b : ℕ) → List·Memᴰ b (found g) → b < length (r .domain .actions) + length (r .domain .methods)
   pub needed : (b : ℕ) → List·Memᴰ b (found g) → Needed r P (moveOfBlock (r .domain) b)
@@ -46,11 +46,11 @@ pub record Holds (r : Rules) (P : Problem) (g : Gathered) : Type 0 where
 abbrev pub Wanted : Literal → Rules → Problem → Type 0
 Wanted l r P = (k : ℕ) → literalHolds (P .state) l ≡ false → OnlyMaker (r .domain) l k → Needed r P (act k)
 
--- Every literal of these is.
+-- Each of these literals holds at some time in every accepted trace.
 abbrev pub WantedAll : List Literal → Rules → Problem → Type 0
 WantedAll ls r P = (l : Literal) → List·Memᴰ l ls → Wanted l r P
 
--- Every literal is that stands in each alternative.
+-- Each literal that stands in every alternative of the formula holds at some time in every accepted trace.
 abbrev pub WantedFormula : Formula → Rules → Problem → Type 0
 WantedFormula f r P = (l : Literal) → InEvery l f → Wanted l r P
 
@@ -69,7 +69,7 @@ WithMakers known s table actions g h = (shop : List ℕ) (P : Problem) → P .st
 abbrev pub Onward : Rules → Problem → Move → Gathered → Gathered → Type 0
 Onward r P m g h = Needed r P m → Holds r P g → Holds r P h
 
--- The same of every problem with this state.
+-- What may be added in every problem with this state because a move is needed.
 abbrev pub OnwardFrom : Rules → State → Move → Gathered → Gathered → Type 0
 OnwardFrom r s m g h = (P : Problem) → P .state ≡ s → Onward r P m g h
 

@@ -1,4 +1,4 @@
--- The table of only makers. Not to be believed: what is proved of the bound is a lemma of `pruning`.
+-- The table of only makers. No reader needs to trust this page: a statement of `pruning` says what the bound is for.
 use Prim.Native.Nat.{ℕ, _+_, _*_, _≤_, _<_}
 use mathlib.Core.Bool.{Bool, cond}
 use mathlib.Core.List.{List, [], _∷_}

@@ -56,7 +56,7 @@ impl Gathered {
         }
     }
 
-    // With one move more, if it is not there yet. Where there is no room for it, it is left out: fewer moves are needed too.
+    // The moves gathered, with one more if it is not there yet. Where there is no room for it, it is left out: fewer moves are needed too.
     pub fn add(self, block: u16, weight: u16) -> Gathered
         ensures { λ r. ⌜ WithBlock block weight self r ⌝ }
     {
@@ -89,7 +89,7 @@ impl Gathered {
         }
     }
 
-    // With the only action that makes a literal, an atom and its sign, if the literal does not hold.
+    // The moves gathered, with the only action that makes a literal, an atom and its sign, if the literal does not hold.
     fn with_maker(
         self,
         atoms: &[bool; 256],
@@ -117,7 +117,7 @@ impl Gathered {
         self.add(action - 1, 1)
     }
 
-    // With the only maker of the row's literal, if it has one: its tag is one of these two, one for true and one for false.
+    // The moves gathered, with the only maker of the row's literal, if it has one: its tag is one of these two, one for true and one for false.
     fn with_row(
         self,
         atoms: &[bool; 256],
@@ -139,7 +139,7 @@ impl Gathered {
         self
     }
 
-    // With the only makers of the literals of the rows with these two tags.
+    // The moves gathered, with the only makers of the literals of the rows with these two tags.
     fn with_rows(
         self,
         atoms: &[bool; 256],
@@ -162,7 +162,7 @@ impl Gathered {
         next
     }
 
-    // With the only makers of what a goal wants, if it has one alternative: then its literals stand in every one.
+    // The moves gathered, with the only makers of what a goal wants, if it has one alternative: then its literals stand in every one.
     fn with_goal<'a>(
         self,
         shop: &'a [u16],
@@ -214,7 +214,7 @@ impl Gathered {
         next
     }
 
-    // With the only makers of what an action or a method needs.
+    // The moves gathered, with the only makers of what an action or a method needs.
     fn with_needs<'a>(
         self,
         shop: &'a [u16],
@@ -242,7 +242,7 @@ impl Gathered {
         )
     }
 
-    // With the only method that can bring in a goal to which the action is relevant, if none that waits is one.
+    // The moves gathered, with the only method that can bring in a goal to which the action is relevant, if none that waits is one.
     fn with_method<'a>(
         self,
         shop: &'a [u16],
@@ -268,7 +268,7 @@ impl Gathered {
         self.add(block, 1 + nodes.count)
     }
 
-    // With the only makers of what a method's nodes want.
+    // The moves gathered, with the only makers of what a method's nodes want.
     fn with_nodes<'a>(
         self,
         shop: &'a [u16],
@@ -298,7 +298,7 @@ impl Gathered {
         next
     }
 
-    // With what a move brings with it.
+    // The moves gathered, with what a move of them brings with it.
     fn with_move<'a>(
         self,
         shop: &'a [u16],
@@ -322,7 +322,7 @@ impl Gathered {
         next.with_nodes(shop, order, tables, atoms, table, block - actions)
     }
 
-    // With what every move of the list brings with it, those that are added on the way too.
+    // The moves gathered, with what every one of them brings with it, those that are added on the way too.
     fn closed<'a>(
         self,
         shop: &'a [u16],

@@ -23,7 +23,8 @@ module _ (sheet : Sheet) (origin : ℕ) (parent : Name) (method : Bool) (e : ℕ
   entries-more j [] b = ap {B = List Entry} (λ k. entryOf sheet origin parent method e k b ∷ []) (sym (add-zero j))
   entries-more j (c ∷ bs) b =
       ap {B = List Entry} (λ l. entryOf sheet origin parent method e j c ∷ l)
-      (entries-more (suc j) bs b ∙ ap {B = List Entry} (λ k. entriesFrom sheet origin parent method e (suc j) bs ++ (entryOf sheet origin parent method e k b ∷ [])) (suc-add j (length bs) ∙ sym (add-suc j (length bs))))
+      (entries-more (suc j) bs b ∙ ap {B = List Entry} (λ k. entriesFrom sheet origin parent method e (suc j) bs ++
+      (entryOf sheet origin parent method e k b ∷ [])) (suc-add j (length bs) ∙ sym (add-suc j (length bs))))
 
 -- The list `r₀`, with room for `count` goals from place `p` on, has become `r`: `number` of them stand there, those of the nodes
 -- passed on the way to `row`.
@@ -75,7 +76,8 @@ module _ (sheet : Sheet) (origin : ℕ) (parent : Name) (method : Bool) (e : ℕ
           front =
               ap (λ (k : ℕ). take k (set r at entry)) (add-one at)
               ∙ take-suc-set r at entry inside
-              ∙ ap₂ {C = List Entry} (λ x y. x ++ (y ∷ [])) (f .front) (q ∙ ap (λ (k : ℕ). entryOf sheet origin parent method e k (record { from = row; to = getD table row 0 })) (f .size ∙ sym (zero-add (length (f .done)))))
+              ∙ ap₂ {C = List Entry} (λ x y. x ++ (y ∷ [])) (f .front)
+              (q ∙ ap (λ (k : ℕ). entryOf sheet origin parent method e k (record { from = row; to = getD table row 0 })) (f .size ∙ sym (zero-add (length (f .done)))))
               ∙ append-assoc (take p r₀) (entriesFrom sheet origin parent method e 0 (f .done)) _
               ∙ ap {B = List Entry} (λ x. take p r₀ ++ x) (sym (entries-more sheet origin parent method e 0 (f .done) (record { from = row; to = getD table row 0 })));
           behind = drop-set-lt (p + count) r at entry (omega (arith, f .here, filling-fits)) ∙ f .behind;

@@ -94,7 +94,7 @@ module _ (w : List Waiting) (p : ℕ) (h : p < length w) where
           let u : getD r k 0 ≡ pending (released w p) (goalAt w (suc k)) = omega (arith, d, x, v (suc k) (omega (arith, one-less))) in
           u ∙ ap (pending (released w p)) (sym (behind-released k (omega arith)))
 
-  -- The same, read of the list that is left.
+  -- The counts that a release leaves are right of any list that equals the one without the goal.
   pub counted-left : {w′ : List Waiting} → w′ ≡ released w p → Ordered w → (c r : List ℕ) → Counted w c → Released w p c r → Counted w′ r
   counted-left e o c r v s = subst (λ (l : List Waiting). Counted l r) (sym e) (counted-released o c r v s)
 
@@ -191,7 +191,8 @@ module _ {shop sheet table : List ℕ} (i : Indexed shop sheet table) (m : ℕ) 
     unfolding decomposed
     counted-grown more z v fr c r counted s =
         subst (λ (l : List Waiting). Counted l r) (sym e)
-        (counted-decomposed w p n _ inside v c r counted nodes-numbered fr (subst (λ (l : List Waiting). Entered l p (length (networkOf (methodAt (domain shop) m))) c r) e (subst (λ (k : ℕ). Entered w′ p k c r) z s)))
+        (counted-decomposed w p n _ inside v c r counted nodes-numbered fr
+        (subst (λ (l : List Waiting). Entered l p (length (networkOf (methodAt (domain shop) m))) c r) e (subst (λ (k : ℕ). Entered w′ p k c r) z s)))
 
 -- The counts of an order's goals, read of the list that they are.
 pub counted-first : (shop sheet : List ℕ) → checkOrder shop sheet ≡ passed → {w : List Waiting} → w ≡ goalsOf (OrderSheet.order sheet)

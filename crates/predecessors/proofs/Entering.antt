@@ -34,7 +34,8 @@ use Rattle.network.specs.Entering.{entryOf, entriesFrom}
 use Rattle.network.specs.declared.waiting.Entry.{Entry}
 use Rattle.network.proofs.Filling.{entries-more}
 use Rattle.network.proofs.Entered.{method-enters}
-use Rattle.predecessors.specs.Goals.{fields, pendingField, goalsWords, countIn, startOf, fieldIn, sheetOf, entryIn, pendingIn, goalsFrom, goalsIn, listIn, countsIn, Within, Put, OpenedWords, nodeEntries, NodesWritten, Decomposed, Begun}
+use Rattle.predecessors.specs.Goals.{fields, pendingField, goalsWords, countIn, startOf, fieldIn, sheetOf, entryIn, pendingIn, goalsFrom}
+use Rattle.predecessors.specs.Goals.{goalsIn, listIn, countsIn, Within, Put, OpenedWords, nodeEntries, NodesWritten, Decomposed, Begun}
 use Rattle.predecessors.specs.declared.goals.Entering.{Entering}
 use Rattle.predecessors.proofs.WaitingGoals.{same-entry, goals-take, goals-drop, goals-append, goals-same, list-length, list-at, count-at, counts-length}
 use Rattle.predecessors.specs.Pending.{Counted}
@@ -147,7 +148,8 @@ module _ (shop order tables : List ℕ) (network : Entering) (bs : List Bounds) 
               ∙ ap₂ {C = List Entry} (λ x y. x ++ y)
               (goals-same ws″ ws′ p p number (λ k l. same-entry ws″ (p + k) ws′ (p + k) (λ f g. same k f l (omega arith))) ∙ v .goals)
               (one-goal ws″ (p + number) (put .entry))
-              ∙ ap {B = List Entry} (λ (j : ℕ). nodeEntries network (v .done) ++ (entryOf (sheetOf (network .origin)) (network .origin) (network .parent) (network .method) (network .end .0) j (record { from = row; to = getD tables row 0 }) ∷ []))
+              ∙ ap {B = List Entry} (λ (j : ℕ). nodeEntries network (v .done)
+              ++ (entryOf (sheetOf (network .origin)) (network .origin) (network .parent) (network .method) (network .end .0) j (record { from = row; to = getD tables row 0 }) ∷ []))
               (v .count ∙ sym (zero-add (length (v .done))))
               ∙ sym (entries-more (sheetOf (network .origin)) (network .origin) (network .parent) (network .method) (network .end .0) 0 (v .done) (record { from = row; to = getD tables row 0 }));
           counts = λ k l. go k l (eqb k number) refl same;

@@ -34,7 +34,8 @@ none-among n (k ∷ ks) = go (eqb n k) (none-among n ks)
 -- A goal is listed after another some times exactly when it comes after it.
 pub none-listed : (q p : Waiting) → eqb (listed q p) 0 ≡ not (comesAfter q p)
 unfolding listed comesAfter
-none-listed q p = go (sameOrigin (q .name .origin) (p .name .origin)) (isParent (q .name) (p .parent)) (among (p .name .number) (q .after)) (occurrences (p .name .number) (q .after)) (none-among (p .name .number) (q .after))
+none-listed q p = go (sameOrigin (q .name .origin) (p .name .origin)) (isParent (q .name) (p .parent)) (among (p .name .number) (q .after))
+    (occurrences (p .name .number) (q .after)) (none-among (p .name .number) (q .after))
   where
     go : (same parent stands : Bool) (n : ℕ) → eqb n 0 ≡ not stands
         → eqb (cond (eqb (cond same n 0) 0) (cond parent 1 0) (cond same n 0)) 0 ≡ not (same && stands || parent)

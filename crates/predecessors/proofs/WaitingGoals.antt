@@ -21,7 +21,8 @@ use Rattle.network.specs.Entries.{waitingOf, noEntry, without}
 use Rattle.network.specs.declared.waiting.Entry.{Entry}
 use Rattle.network.proofs.Goals.{list-released}
 use Rattle.predecessors.specs.Pending.{listed, Counted}
-use Rattle.predecessors.specs.Goals.{fields, pendingField, goalsWords, countIn, startOf, fieldIn, entryFrom, entryIn, pendingIn, goalsFrom, countsFrom, goalsIn, listIn, countsIn, Within, Closed, Lowered, Left, OpenedWords}
+use Rattle.predecessors.specs.Goals.{fields, pendingField, goalsWords, countIn, startOf, fieldIn, entryFrom, entryIn, pendingIn}
+use Rattle.predecessors.specs.Goals.{goalsFrom, countsFrom, goalsIn, listIn, countsIn, Within, Closed, Lowered, Left, OpenedWords}
 use Rattle.predecessors.specs.Kept.{Raised}
 use Rattle.predecessors.specs.Reaching.{ListReached}
 use Rattle.predecessors.proofs.Places.{Released}

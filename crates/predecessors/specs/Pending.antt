@@ -13,15 +13,15 @@ unfoldable pub occurrences : ℕ → List ℕ → ℕ
 occurrences n [] = 0
 occurrences n (k ∷ ks) = cond (eqb n k) (suc (occurrences n ks)) (occurrences n ks)
 
--- As often as `p`'s number stands among `q`'s, in one network.
+-- How often `q`'s rows list it after `p`, a goal of its network; 0 in two networks.
 abbrev pub byNetwork : Waiting → Waiting → ℕ
 byNetwork q p = cond (sameOrigin (q .name .origin) (p .name .origin)) (occurrences (p .name .number) (q .after)) 0
 
--- How often `q` is listed after `p`: that, or once if `p` came with a method used at `q`.
+-- How often `q` is listed after `p`: by their network, or once if `p` came with a method used at `q`.
 unfoldable pub listed : Waiting → Waiting → ℕ
 listed q p = cond (eqb (byNetwork q p) 0) (cond (isParent (q .name) (p .parent)) 1 0) (byNetwork q p)
 
--- The same, of all goals of a list.
+-- How often `q` is listed after goals of a list: 0 where `q` is free.
 unfoldable pub pending : List Waiting → Waiting → ℕ
 pending [] q = 0
 pending (p ∷ w) q = listed q p + pending w q

@@ -17,6 +17,6 @@ pub record ReachedAt (shop sheet : List ℕ) (n : ℕ) (P : Problem) : Type 0 wh
   pub reached : Reached (rulesOf shop) (problemFrom start (order sheet)) steps P
   pub number : length steps ≡ n
 
--- With this list waiting.
+-- From some first state, `n` steps have led to a problem in which this list waits.
 abbrev pub ListReached : List ℕ → List ℕ → ℕ → List Waiting → Type 0
 ListReached shop sheet n w = (s : State) × ReachedAt shop sheet n (record { state = s; waiting = w })

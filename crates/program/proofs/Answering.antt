@@ -6,7 +6,7 @@ use lib.ListN.{take}
 use Rattle.hgn.specs.Replay.{Replayed, replay}
 use Rattle.program.specs.Texts.{heading, lines, textOf}
 
--- The same replay of the same words, told otherwise.
+-- A replay depends on the words of its sheets alone, so equal words may be put for each other.
 pub replay-of : {shop shop′ order order′ trace trace′ : List ℕ} (room : List ℕ) → shop ≡ shop′ → order ≡ order′ → trace ≡ trace′
     → replay shop order trace room ≡ replay shop′ order′ trace′ room
 replay-of room a b c = rw (a, b, c) refl

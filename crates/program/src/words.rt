@@ -11,7 +11,7 @@ fn word(low: u8, high: u8) -> u16
     low as u16 + 256 * (high as u16)
 }
 
-// How many words a room of so many takes from so many bytes.
+// The smaller one: a room takes no more words than it has, and no more than the bytes make.
 fn least(pairs: usize, room: usize) -> usize
     ensures { λ r. ⌜ r ≡ min pairs room ⌝ }
 {

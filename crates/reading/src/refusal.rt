@@ -21,7 +21,7 @@ impl Refusal {
         }
     }
 
-    // By the question of this number, with no place of its own.
+    // The refusal by the question of this number, with no place of its own.
     pub fn by(number: u16) -> Refusal
         ensures { λ r. ⌜ refusalOf r ≡ (number asks false) .refusal ⌝ }
     {
@@ -31,7 +31,7 @@ impl Refusal {
         }
     }
 
-    // The same refusal at a place.
+    // A refusal keeps its number and gets this place.
     pub fn at(self, place: u16) -> Refusal
         ensures { λ r. ⌜ refusalOf r ≡ placed place (refusalOf self) ⌝ }
     {

@@ -39,7 +39,7 @@ wanted r g (Run.act k) = r .mayAct (actionAt (r .domain) k) (g .formula)
 wanted r g (Run.use-method m) = true
 wanted r g Run.unknown = true
 
--- With so many waiting before the move and so many steps left after it, more goals wait then than steps are left.
+-- More goals wait after the move than the `left` steps after it. `count` goals wait before it.
 unfoldable pub crowded : ℕ → ℕ → Run.Move → Bool
 crowded left count Run.release = ltb (left + 1) count
 crowded left count (Run.act k) = ltb left count

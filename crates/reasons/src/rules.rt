@@ -77,7 +77,7 @@ pub fn wanted<'a>(shop: &'a [u16], order: &'a [u16], tables: &[u16], goal: Entry
     }
 }
 
-// With so many waiting before the move and so many steps left after it, more goals wait then than steps are left.
+// More goals wait after the move than steps are left after it. `count` goals wait before it.
 pub fn crowded(left: u16, count: u16, mv: Move) -> bool
     requires { ⌜ left ≤ 32 ⌝ }
     ensures { λ r. ⌜ r ≡ isCrowded left count (knownOf mv) ⌝ }

@@ -35,7 +35,8 @@ module _ (actions : ℕ) (moves before : List ℕ) where
       holds = w .holds;
       number = w .number;
       few = omega (arith, w .few);
-      whole = w .whole ∙ ap {B = List ℕ} (λ l. w .done ++ actionMoves actions l) rest ∙ ap {B = List ℕ} (λ (b : Bool). w .done ++ cond b (getD moves i 0 ∷ actionMoves actions (drop (i + 1) moves)) (actionMoves actions (drop (i + 1) moves))) e;
+      whole = w .whole ∙ ap {B = List ℕ} (λ l. w .done ++ actionMoves actions l) rest
+          ∙ ap {B = List ℕ} (λ (b : Bool). w .done ++ cond b (getD moves i 0 ∷ actionMoves actions (drop (i + 1) moves)) (actionMoves actions (drop (i + 1) moves))) e;
     }
 
     pub writing-zero : getD moves i 0 ≤ 0 → Writing actions moves before room written (i + 1)

@@ -29,7 +29,7 @@ pub record Kept (shop order ws : List ℕ) : Type 0 where
   pub within : Within ws
   pub counted : Counted (listIn shop order ws) (countsIn ws)
 
--- The same of a state and words that `n` steps have led to.
+-- What a run keeps: such words, and with this state they are a problem that `n` steps have led to.
 pub record Going (shop order : List ℕ) (n : ℕ) (s : State) (ws : List ℕ) : Type 0 where
   pub kept : Kept shop order ws
   pub reached : ReachedAt shop order n (problemWith shop order s ws)

@@ -43,7 +43,7 @@ fn run_indexed<'a>(shop: &'a [u16], order: &'a [u16], trace: &[u16], tables: &mu
     run::run(shop, order, trace, tables, State { atoms: atoms }, goals)
 }
 
-// The same, with tables of the largest sheet's size.
+// The run of sheets that passed. The tables of their index have the largest sheet's size, since no size is known before.
 fn run_checked<'a>(shop: &'a [u16], order: &'a [u16], trace: &[u16]) -> Answer
     requires { ⌜ checkTrace (now shop) (now order) (now trace) ≡ passed ⌝ }
     ensures { λ r. ⌜ answerOf r ≡ runAnswer (now (shop .entry)) (now (trace .entry)) (problemOf (OrderSheet.order (now (order .entry)))) ⌝ }

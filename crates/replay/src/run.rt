@@ -32,7 +32,7 @@ pub struct Totals {
 }
 
 impl Totals {
-    // With what a move adds.
+    // The totals after a move: an action adds one and its cost, a release and a method nothing.
     fn with(self, shop: &[u16], tables: &[u16], known: Move) -> Totals
         requires { ⌜ ((order : List ℕ) × Indexed (now shop) order (now tables)) × Known (actionCount (now shop)) (methodCount (now shop)) known ⌝ }
         requires { ⌜ (self .count ≤ mostSteps) × (self .cost ≤ mostCost * mostSteps) ⌝ }

@@ -82,7 +82,8 @@ pub fn take<'a>(
     step: Step,
 ) -> Decision
     requires { ⌜ Indexed (now shop) (now order) (now tables) × Going (now shop) (now order) (step .number) (now atoms) (now waiting) × (step .number < orderOrigin) ⌝ }
-    ensures { λ r. ⌜ Took (now (shop .entry)) (now (order .entry)) (step .number) (record { move = step .mv; place = step .place .0 }) (now (atoms .entry)) (now (waiting .entry)) r (now (atoms .exit)) (now (waiting .exit)) ⌝ }
+    ensures { λ r. ⌜ Took (now (shop .entry)) (now (order .entry)) (step .number) (record { move = step .mv; place = step .place .0 })
+        (now (atoms .entry)) (now (waiting .entry)) r (now (atoms .exit)) (now (waiting .exit)) ⌝ }
 {
     let place = step.place;
     let seen = goals::look(waiting, place);

@@ -141,7 +141,7 @@ module _ (sheet : Sheet) (F : ℕ) (rs : List Row) where
         sym (g .tally ∙ ap (countedRows t) e),
       )
 
--- The same of the rows that stand in a sheet's words.
+-- The pass over the rows that stand in a sheet's words.
 module _ (sheet : Sheet) (F sizes n : ℕ) (words : List ℕ) (fits : sizes + (n + n) ≤ length words) where
   abbrev rows : List Row
   rows = rowsOf sizes n words

@@ -70,7 +70,7 @@ fn deepen<'a>(
     }
 }
 
-// On sheets that passed, with tables of these sizes.
+// The shortest trace of sheets that passed, found with the index in tables that are lent.
 fn search_indexed<'a>(shop: &'a [u16], order: &'a [u16], depth: u16, tables: &mut [u16]) -> Shortest
     requires { ⌜ (checkOrder (now shop) (now order) ≡ passed) × (depth ≤ 32) ⌝ }
     requires { ⌜ mostRows + suc (mostActions + mostMethods) ≤ length (now tables) ⌝ }
@@ -80,7 +80,7 @@ fn search_indexed<'a>(shop: &'a [u16], order: &'a [u16], depth: u16, tables: &mu
     deepen(shop, order, tables, first, depth)
 }
 
-// The same, with tables of the largest sheet's size.
+// The shortest trace of sheets that passed. The tables of their index have the largest sheet's size, since no size is known before.
 fn search_checked<'a>(shop: &'a [u16], order: &'a [u16], depth: u16) -> Shortest
     requires { ⌜ (checkOrder (now shop) (now order) ≡ passed) × (depth ≤ 32) ⌝ }
     ensures { λ r. ⌜ (shortestOf r ≡ searched (now (shop .entry)) (now (order .entry)) depth) × (r .length ≤ depth) ⌝ }
@@ -89,7 +89,7 @@ fn search_checked<'a>(shop: &'a [u16], order: &'a [u16], depth: u16) -> Shortest
     search_indexed(shop, order, depth, &mut tables)
 }
 
-// So many words, from `at` on.
+// The first words of a list, so many, go into the room from `at` on.
 fn write_words(room: &mut [u16], at: usize, words: [u16; 32], count: usize)
     requires { ⌜ (at + count ≤ length (now room)) × (count ≤ 32) ⌝ }
     ensures { λ _. ⌜ now (room .exit) ≡ paste (now (room .entry)) at words count ⌝ }

@@ -75,7 +75,7 @@ pub fn places<'a>(
     Found::empty(false)
 }
 
-// The same, with the first step at this free goal.
+// The first trace of so many steps from a record on whose first step is taken at this free goal, none of them left out.
 pub fn moves<'a>(
     shop: &'a [u16],
     order: &'a [u16],

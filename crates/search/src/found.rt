@@ -27,7 +27,7 @@ impl Found {
         }
     }
 
-    // With the step of this number before the others.
+    // The trace found, with the step of this number put before its others.
     pub fn with(self, number: u16, mv: u16, place: u16) -> Found
         requires { ⌜ number < 32 ⌝ }
         ensures { λ r. ⌜ (r .found ≡ self .found) × ((k : ℕ) → stepsFrom number (suc k) r ≡ step mv place ∷ stepsFrom (number + 1) k self) ⌝ }

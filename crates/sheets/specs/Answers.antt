@@ -29,7 +29,7 @@ abbrev pub ShopEnds : Scan → ShopSizes → Refusal → Type 0
 ShopEnds s sizes r = (shop : List ℕ) → Scanned Of.Shop (Shop.atomCount shop) (shopRows shop) s → ShopSized shop sizes
     → refusalOf r ≡ told (firstNo (questionsOf Of.Shop (Shop.atomCount shop) (shopRows shop) ++ shopEndQuestions shop))
 
--- The same of an order sheet.
+-- Of any order sheet of these sizes of which the rows came to this scan: the first no from its rows on.
 abbrev pub OrderEnds : Scan → OrderSizes → Refusal → Type 0
 OrderEnds s sizes r = (sheet : List ℕ) → Scanned Of.Order (Order.atomCount sheet) (orderRows sheet) s → OrderSized sheet sizes
     → refusalOf r ≡ told (firstNo (questionsOf Of.Order (Order.atomCount sheet) (orderRows sheet) ++ orderEndQuestions sheet))

@@ -167,7 +167,7 @@ module _ {words : List ℕ} {l : Layout} {ends₀ starts₁ : List ℕ} {blocks 
         unfolding upTo
         filled-other e = filled-same end (g .end-inside) (rw (rest, opens-is o, ne-eqb t Tag.node e) (omega (arith, g .end-is)))
 
--- The same of one table, whose first part is the ends and whose second the starts.
+-- The filling of one table, whose first part is the ends and whose second the starts, is that of two tables.
 module _ {words : List ℕ} {l : Layout} {table₁ : List ℕ} {blocks : ℕ} (q : Indexable words l table₁ blocks) where
   abbrev rows : List Row
   rows = rowsOf (l .sizes) (l .rows) words

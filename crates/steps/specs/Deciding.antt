@@ -34,12 +34,12 @@ pub record Faces (shop order : List ℕ) (s : State) (goal : Span) (count : ℕ)
   pub formula : goalAt (P .waiting) p .formula ≡ nodeOf (spanRows shop order goal) .formula
   pub size : length (P .waiting) ≡ count
 
--- In whatever step, of whatever problem that is so, the first no of the move's own questions is told.
+-- The refusal is the first no of the move's own questions, in whatever step and of whatever problem that this goal faces.
 abbrev pub Answers : List ℕ → List ℕ → State → Span → ℕ → Run.Move → Refusal → Type 0
 Answers shop order s goal count m r = (n : ℕ) (P : Problem) (p : ℕ) → Faces shop order s goal count P p
     → refusalOf r ≡ told (firstNo (ownQuestions (rulesOf shop) n P p m))
 
--- The same of the action with these rows, whatever its number.
+-- The first no of the own questions of an action with these rows is told, whatever the action's number.
 abbrev pub OfAction : List ℕ → List ℕ → State → Span → Span → Refusal → Type 0
 OfAction shop order s rows goal r = (k count : ℕ) → actionAt (domain shop) k ≡ Meaning.actionOf (spanRows shop order rows)
     → Answers shop order s goal count (Run.act k) r

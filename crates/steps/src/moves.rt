@@ -19,7 +19,7 @@ impl Move {
     // The move that stands for method 0.
     pub const FIRST_METHOD: u16 = 256;
 
-    // With so many actions and methods.
+    // A move by its number in a shop of so many actions and methods.
     pub fn read(number: u16, actions: u16, methods: u16) -> Read
         ensures { λ r. ⌜ readOf r ≡ moveRead number actions methods ⌝ }
     {

@@ -62,7 +62,7 @@ pub fn change<'a>(atoms: &mut [bool; 256], shop: &'a [u16], order: &'a [u16], ro
     state::assign(atoms, tags, values, tag::MAKES_TRUE, true);
 }
 
-// The same, of a state by value.
+// A copy of the state, changed by an action with these rows.
 pub fn changed<'a>(atoms: [bool; 256], shop: &'a [u16], order: &'a [u16], rows: Span) -> [bool; 256]
     ensures { λ r. ⌜ r ≡ γ atoms (literals 5 6 (spanRows (now (shop .entry)) (now (order .entry)) rows)) ⌝ }
 {

@@ -28,7 +28,7 @@ pub enum Decision {
     Takes(Move),
 }
 
-// Of the action with these rows, at a goal with those: needs hold? 30. Relevant? 31.
+// The first no of an action's own questions at a goal, both by their rows: 30 where its needs do not hold, 31 where it is not relevant.
 fn of_action<'a>(
     shop: &'a [u16],
     order: &'a [u16],
@@ -47,7 +47,8 @@ fn of_action<'a>(
     Refusal::by(30)
 }
 
-// Of a method, at a goal with these rows, with so many waiting: needs hold? 30. Relevant? 31. At most 64 waiting afterwards? 32.
+// The first no of a method's own questions at a goal by its rows: 30 where its needs do not hold, 31 where it is not relevant, 32 where
+// more than 64 goals would wait.
 fn of_method<'a>(
     shop: &'a [u16],
     order: &'a [u16],

@@ -99,7 +99,8 @@ pub fn step<'a>(
 ) -> Stepped
     requires { ⌜ Indexed (now shop) (now order) (now tables) ⌝ }
     requires { ⌜ (problem .waiting .count ≤ 64) × (number < 65535) ⌝ }
-    ensures { λ r. ⌜ Is (now (shop .entry)) (now (order .entry)) (stepped (rulesOf (now (shop .entry))) number (problemIn (now (shop .entry)) (now (order .entry)) problem) (record { move = mv; place = place .0 })) problem r ⌝ }
+    ensures { λ r. ⌜ Is (now (shop .entry)) (now (order .entry))
+        (stepped (rulesOf (now (shop .entry))) number (problemIn (now (shop .entry)) (now (order .entry)) problem) (record { move = mv; place = place .0 })) problem r ⌝ }
 {
     let atoms = problem.atoms;
     let waiting = problem.waiting;

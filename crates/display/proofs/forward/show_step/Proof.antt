@@ -122,7 +122,8 @@ module _ {M : Type 1} (𝓤 : URA M) (H : Heap 𝓤) (A : Atoms 𝓤) (W : Given
 
   goes-made : (k : Refusal) (w : Val) (p : Problem) → Is R.the-row k (w ∷ []) → Is P.the-row p (LL.vals P.the-type P′.the-laws p) → ent 𝓤 (emp 𝓤) (Made 𝓤 H A at-mem run .pre (to-made k w p))
   goes-made k w p isk isp =
-      qed W [] ∵ nothing ! $ owned ! P.the-row (Is P.the-row) (LL.makes P.the-type P′.the-plain 𝓤 H A) p _ isp $ fjoin ! $ owned ! R.the-row (Is R.the-row) (LL.makes R.the-type R′.the-plain 𝓤 H A) k _ isk $ fjoin ! $
+      qed W [] ∵ nothing ! $ owned ! P.the-row (Is P.the-row) (LL.makes P.the-type P′.the-plain 𝓤 H A) p _ isp $ fjoin ! $
+      owned ! R.the-row (Is R.the-row) (LL.makes R.the-type R′.the-plain 𝓤 H A) k _ isk $ fjoin ! $
       nothing ! $ join ! $ nothing ! $ move ! (1 ∷ 0 ∷ []) $ done !
 
   abbrev Is-made : Refusal → Problem → Stepped → Type 0
@@ -166,7 +167,8 @@ module _ {M : Type 1} (𝓤 : URA M) (H : Heap 𝓤) (A : Atoms 𝓤) (W : Given
         (and-then ! (load ! (from ! (stop !)) (look ! 5 refl)) (and-then ! (load ! (from ! (stop !)) (look ! 20 refl)) (and-then ! (load ! (from ! (stop !)) (look ! 18 refl))
         (and-then ! (load ! (from ! (stop !)) (look ! 16 refl)) (and-then ! (load ! (from ! (stop !)) (look ! 14 refl))
         (and-then ! (load ! (from ! (stop !)) (look ! 12 refl)) (and-then ! (load ! (from ! (stop !)) (look ! 10 refl)) (no-more !)))))))) (λ w.
-        use1 W (later (some (λ (k : Refusal). (Both ν ⊛ ‵ (R.the-row .own k (w ∷ []))) ⊛ raw (ensured 𝓤 H A forward.ended (forward.clauses 𝓤 H A at-mem run) (ν ∷ [], κs) (bench l₈ δ, a) tt k)))) (id⊢ 𝓤 _) $
+        use1 W (later (some (λ (k : Refusal). (Both ν ⊛ ‵ (R.the-row .own k (w ∷ [])))
+        ⊛ raw (ensured 𝓤 H A forward.ended (forward.clauses 𝓤 H A at-mem run) (ν ∷ [], κs) (bench l₈ δ, a) tt k)))) (id⊢ 𝓤 _) $
         await ! tt $ pick ! (λ k. split ! $ move ! (1 ∷ []) $ use1 W (some (Told δ k)) (forward-said ν l₈ δ k) $ pick ! (λ p. learn ! (λ e. move ! (1 ∷ []) $ split ! $ split ! $
         -- [ν's token; the tokens; the result; res; what is passed beside; the lender's part; room for _11; …]: the lifetime is ended, and the local lies there again
         lft-end ! tt $ move ! (0 ∷ 5 ∷ 3 ∷ []) $ use3 W (later (given (Is P.the-row p (LL.vals P.the-type P′.the-laws p)) (‵ (fat fullShare P′.mir l₈ 0 (LL.val P.the-type P′.the-laws p)))))

@@ -18,4 +18,5 @@ goal-holds-spec =
     (λ c κs. search needs)
     (λ c κs. search needs)
     (λ c κs. search needs)
-    (λ c. c .formula-holds .ensures ∙ ap₂ (λ (x y : List ℕ). formulaHolds (c .before .before .before .before .before .args .atoms .now) (nodeOf (zipWith row x y) .formula)) (c .before .before .tags-of .ensures) (c .before .values-of .ensures)))
+    (λ c. c .formula-holds .ensures ∙ ap₂ (λ (x y : List ℕ). formulaHolds (c .before .before .before .before .before .args .atoms .now)
+    (nodeOf (zipWith row x y) .formula)) (c .before .before .tags-of .ensures) (c .before .values-of .ensures)))

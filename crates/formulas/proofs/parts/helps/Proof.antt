@@ -25,4 +25,5 @@ helps-spec =
     c .is-relevant .ensures
     ∙ ap₂ (λ (x y : List ℕ). relevant (literals (a .yes) (a .no) (zipWith row x y)) (nodeOf (zipWith row (c .before .before .tags-of2 .result .now) (c .before .values-of2 .result .now)) .formula))
     (c .before .before .before .before .tags-of .ensures) (c .before .before .before .values-of .ensures)
-    ∙ ap₂ (λ (x y : List ℕ). relevant (literals (a .yes) (a .no) (spanRows (a .shop .now) (a .order .now) (a .effects))) (nodeOf (zipWith row x y) .formula)) (c .before .before .tags-of2 .ensures) (c .before .values-of2 .ensures)))
+    ∙ ap₂ (λ (x y : List ℕ). relevant (literals (a .yes) (a .no) (spanRows (a .shop .now) (a .order .now) (a .effects)))
+    (nodeOf (zipWith row x y) .formula)) (c .before .before .tags-of2 .ensures) (c .before .values-of2 .ensures)))

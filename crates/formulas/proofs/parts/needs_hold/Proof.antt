@@ -18,4 +18,5 @@ needs-hold-spec =
     (λ c κs. search needs)
     (λ c κs. search needs)
     (λ c κs. search needs)
-    (λ c. c .all-hold .ensures ∙ ap₂ (λ (x y : List ℕ). allHold (c .before .before .before .before .before .args .atoms .now) (literals 3 4 (zipWith row x y))) (c .before .before .tags-of .ensures) (c .before .values-of .ensures)))
+    (λ c. c .all-hold .ensures ∙ ap₂ (λ (x y : List ℕ). allHold (c .before .before .before .before .before .args .atoms .now)
+    (literals 3 4 (zipWith row x y))) (c .before .before .tags-of .ensures) (c .before .values-of .ensures)))

@@ -18,7 +18,8 @@ loop-again c =
     let l = c .before .before .before .before in
     let s = l .before .before .before .before .before .before in
     makers-next (s .pre) (l .before .loop .inv) (omega (arith, l .loop-test .taken, l .before .before .word .ensures))
-    _ (c .before .before .before .action-rows .ensures _ _ (s .pre) (omega (arith, l .loop-test .taken, l .before .before .word .ensures))) (c .before .before .tags-of .ensures) (c .before .values-of .ensures) (c .with-action .ensures)
+    _ (c .before .before .before .action-rows .ensures _ _ (s .pre) (omega (arith, l .loop-test .taken, l .before .before .word .ensures)))
+    (c .before .before .tags-of .ensures) (c .before .values-of .ensures) (c .with-action .ensures)
 
 pub makers-spec : {M : Type 1} → statement M
 makers-spec =

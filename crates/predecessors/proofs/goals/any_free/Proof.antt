@@ -34,7 +34,8 @@ any-free-spec =
     -- returns
     (λ c shop order counted.
     let l = c .before .before in
-    some-free shop order _ (c .before .before .before .before .before .pre) counted _ (omega (arith, l .loop-test .taken, l .before .before .count-of .ensures)) (told (c .before .is-free .ensures) (c .if1 .taken)))
+    some-free shop order _ (c .before .before .before .before .before .pre) counted _
+    (omega (arith, l .loop-test .taken, l .before .before .count-of .ensures)) (told (c .before .is-free .ensures) (c .if1 .taken)))
     -- add-i
     (λ c. search needs)
     -- loop-less

@@ -15,7 +15,8 @@ begin-spec =
     -- element-write-goals
     (λ c. search needs)
     -- write-nodes-requires
-    (λ c κs. let s = c .before .before .before .before in let p = s .pre in ((length-set (s .args .goals .now) 0 (s .args .network .count) ∙ p .0 .0, omega (arith, p .0 .1), p .0 .2), (p .1 .0, p .1 .1, p .1 .2)))
+    (λ c κs. let s = c .before .before .before .before in let p = s .pre in
+    ((length-set (s .args .goals .now) 0 (s .args .network .count) ∙ p .0 .0, omega (arith, p .0 .1), p .0 .2), (p .1 .0, p .1 .1, p .1 .2)))
     -- returns
     (λ c bs w.
     let s = c .before .before .before .before .before in

@@ -97,7 +97,8 @@ write-nodes-spec =
       i .1,
       i .2,
       omega (arith, i .3),
-      writing-more _ _ _ _ _ _ _ (i .4) (omega (arith, l, i .8)) (c .before .before .in-network .result) (c .before .before .in-network .ensures ∙ ap (λ (e : Entry). length (waitingOf (s .args .shop .now) (s .args .order .now) e .after)) n)
+      writing-more _ _ _ _ _ _ _ (i .4) (omega (arith, l, i .8)) (c .before .before .in-network .result)
+          (c .before .before .in-network .ensures ∙ ap (λ (e : Entry). length (waitingOf (s .args .shop .now) (s .args .order .now) e .after)) n)
           (rw (i .3, n) at (c .put .ensures)),
       i .5,
       i .6,

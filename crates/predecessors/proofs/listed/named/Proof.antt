@@ -36,20 +36,24 @@ named-spec =
     (λ c. omega (arith, c .before .before .before .before .before .loop .inv .1))
     (λ c. search needs)
     (λ c. let l = c .before .before .before .before in (
-      by-row (λ rs. l .before .loop .found + occurrences (l .before .before .before .before .before .args .number) (valuesOf 11 rs)) _ _ _ _ (l .before .before .rows .ensures) (l .before .loop .inv .0) (l .loop-test .taken)
+      by-row (λ rs. l .before .loop .found + occurrences (l .before .before .before .before .before .args .number) (valuesOf 11 rs)) _ _ _ _
+          (l .before .before .rows .ensures) (l .before .loop .inv .0) (l .loop-test .taken)
           (found-after _ _ _ _ _ (c .before .before .if1 .taken) (c .if2 .taken)),
       omega (arith, l .before .loop .inv .1),
     ))
     (λ c. search needs)
     (λ c. let l = c .before .before .before .before in (
-      by-row (λ rs. l .before .loop .found + occurrences (l .before .before .before .before .before .args .number) (valuesOf 11 rs)) _ _ _ _ (l .before .before .rows .ensures) (l .before .loop .inv .0) (l .loop-test .taken)
+      by-row (λ rs. l .before .loop .found + occurrences (l .before .before .before .before .before .args .number) (valuesOf 11 rs)) _ _ _ _
+          (l .before .before .rows .ensures) (l .before .loop .inv .0) (l .loop-test .taken)
           (found-other-value _ _ _ _ _ (c .before .before .if1 .taken) (c .if2 .left)),
       omega (arith, l .before .loop .inv .1),
     ))
     (λ c. search needs)
     (λ c. let l = c .before .before in (
-      by-row (λ rs. l .before .loop .found + occurrences (l .before .before .before .before .before .args .number) (valuesOf 11 rs)) _ _ _ _ (l .before .before .rows .ensures) (l .before .loop .inv .0) (l .loop-test .taken)
+      by-row (λ rs. l .before .loop .found + occurrences (l .before .before .before .before .before .args .number) (valuesOf 11 rs)) _ _ _ _
+          (l .before .before .rows .ensures) (l .before .loop .inv .0) (l .loop-test .taken)
           (found-other _ _ _ _ _ (c .if1 .left)),
       omega (arith, l .before .loop .inv .1),
     ))
-    (λ c. sym (at-end (λ rs. c .before .loop .found + occurrences (c .before .before .before .before .before .args .number) (valuesOf 11 rs)) _ _ _ _ (c .before .before .rows .ensures) (c .before .loop .inv .0) (c .loop-test .left) (found-none _ _))))
+    (λ c. sym (at-end (λ rs. c .before .loop .found + occurrences (c .before .before .before .before .before .args .number) (valuesOf 11 rs)) _ _ _ _
+    (c .before .before .rows .ensures) (c .before .loop .inv .0) (c .loop-test .left) (found-none _ _))))

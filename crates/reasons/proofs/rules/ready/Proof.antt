@@ -46,4 +46,5 @@ ready-spec =
     let s = c .before .before .before .before .before .before .before .before .before in
     let a = c .before .before .method-rows .ensures _ (s .pre .0) in
     ready-method _ (c .before .before .before .before .mv2 .given .1) _ _ _ _ (a .needs)
-    (c .needs-hold2 .ensures ∙ ap (λ (x : Span). allHold (s .args .atoms .now) (literals Tag.needsTrue Tag.needsFalse (spanRows (s .args .shop .now) (s .args .order .now) x))) (c .before .of-shop .ensures))))
+    (c .needs-hold2 .ensures ∙ ap (λ (x : Span). allHold (s .args .atoms .now)
+    (literals Tag.needsTrue Tag.needsFalse (spanRows (s .args .shop .now) (s .args .order .now) x))) (c .before .of-shop .ensures))))

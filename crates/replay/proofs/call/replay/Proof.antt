@@ -34,7 +34,8 @@ module _ (c : tie.Else2) where
   begun = c .before .before .before .before .before .before .before .before .before
 
   passes : checkTrace (shop begun) (order begun) (trace begun) ≡ passed
-  passes = sheet-passes (shop begun) (order begun) (trace begun) (room begun) (c .before .before .before .before .check-trace .result) (c .before .before .before .before .check-trace .ensures) (c .before .before .if1 .left)
+  passes = sheet-passes (shop begun) (order begun) (trace begun) (room begun) (c .before .before .before .before .check-trace .result)
+      (c .before .before .before .before .check-trace .ensures) (c .before .before .if1 .left)
 
   enough : stepCount (trace begun) ≤ length (room begun)
   enough = omega (arith, c .if2 .left, c .before .word .ensures)
@@ -50,7 +51,8 @@ replay-spec =
     (λ c κs. search needs)
     (λ c.
     let s = c .before .before .before .before .before .before .before .before in
-    sheet-refused (shop s) (order s) (trace s) (room s) (c .before .before .before .check-trace .result) (c .before .before .before .check-trace .ensures) (c .before .if1 .taken) (c .refused .result) (c .refused .ensures))
+    sheet-refused (shop s) (order s) (trace s) (room s) (c .before .before .before .check-trace .result)
+    (c .before .before .before .check-trace .ensures) (c .before .if1 .taken) (c .refused .result) (c .refused .ensures))
     (λ c κs. search needs)
     (λ c. search needs)
     (λ c κs. search needs)
@@ -58,11 +60,13 @@ replay-spec =
     (λ c.
     let s = c .before .before .before .before .before .before .before .before .before .before .before in
     room-short (shop s) (order s) (trace s) (room s)
-    (sheet-passes (shop s) (order s) (trace s) (room s) (c .before .before .before .before .before .before .check-trace .result) (c .before .before .before .before .before .before .check-trace .ensures) (c .before .before .before .before .if1 .left))
+    (sheet-passes (shop s) (order s) (trace s) (room s) (c .before .before .before .before .before .before .check-trace .result)
+    (c .before .before .before .before .before .before .check-trace .ensures) (c .before .before .before .before .if1 .left))
     (omega (arith, c .before .before .if2 .taken, c .before .before .before .word .ensures)) (c .refused2 .result)
     (c .refused2 .ensures ∙ ap (λ (q : Refusal). refusal [] q .answer) (c .before .by .ensures)))
     (λ c κs. passes c)
-    (λ c. run-stopped _ _ _ _ (passes (c .before .before .before)) (enough (c .before .before .before)) (c .before .before .run-checked .result) (c .before .before .run-checked .ensures) (c .if3 .taken))
+    (λ c. run-stopped _ _ _ _ (passes (c .before .before .before)) (enough (c .before .before .before)) (c .before .before .run-checked .result)
+    (c .before .before .run-checked .ensures) (c .if3 .taken))
     (λ c κs. omega (arith, trace-sizes _ _ _ (passes (c .before .before .before)) .0))
     (λ c κs. search needs)
     (λ c κs. let e = c .before .before .before .before .before .before in rw (ap length (c .before .before .moves-of .ensures) ∙ moves-length e) (enough e))
@@ -70,7 +74,10 @@ replay-spec =
     (λ c.
     let e = c .before .before .before .before .before .before .before .before .before in
     let s = begun e in
-    run-accepted (shop s) (order s) (trace s) (room s) (passes e) (enough e) (c .before .before .before .before .before .before .before .before .run-checked .result) (c .before .before .before .before .before .before .before .before .run-checked .ensures) (c .before .before .before .before .before .before .if3 .left)
+    run-accepted (shop s) (order s) (trace s) (room s) (passes e) (enough e)
+    (c .before .before .before .before .before .before .before .before .run-checked .result)
+    (c .before .before .before .before .before .before .before .before .run-checked .ensures) (c .before .before .before .before .before .before .if3 .left)
     (c .before .before .write-plan .last .1 .1 .0)
     (c .before .before .write-plan .ensures
-    ∙ ap₂ {C = List ℕ} (λ (k : ℕ) (ms : List ℕ). actionMoves k ms ++ drop (length (actionMoves k ms)) (room s)) (c .before .before .before .before .word2 .ensures) (c .before .before .before .before .before .moves-of .ensures))))
+    ∙ ap₂ {C = List ℕ} (λ (k : ℕ) (ms : List ℕ). actionMoves k ms ++ drop (length (actionMoves k ms)) (room s))
+    (c .before .before .before .before .word2 .ensures) (c .before .before .before .before .before .moves-of .ensures))))

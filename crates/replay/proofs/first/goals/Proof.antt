@@ -37,11 +37,13 @@ module _ (s : tie.After-word2) where
   few : s .word2 .result ≤ 64
   few = omega (arith, s .word2 .ensures, order-count (start .args .shop .now) order (start .pre .checked), order-goals (start .args .shop .now) order (start .pre .checked))
 
-entries-are : (c : tie.After-entered) → entriesOf (c .entered .result) ≡ entriesFrom Of.Order 65535 (record { origin = 65535; number = 0 }) false (Order.rowCount (order (c .before .before))) 0 (found (c .before .before) .bs)
+entries-are : (c : tie.After-entered) → entriesOf (c .entered .result) ≡ entriesFrom Of.Order 65535 (record { origin = 65535; number = 0 }) false
+    (Order.rowCount (order (c .before .before))) 0 (found (c .before .before) .bs)
 entries-are c =
     let s = c .before .before in
     c .entered .ensures .0 (found s .bs) (walk s)
-    ∙ ap {B = List Entry} (λ l. take 0 l ++ (entriesFrom Of.Order 65535 (record { origin = 65535; number = 0 }) false (s .before .word .result) 0 (found s .bs) ++ drop 0 l)) (c .before .empty .ensures .0)
+    ∙ ap {B = List Entry} (λ l. take 0 l ++ (entriesFrom Of.Order 65535 (record { origin = 65535; number = 0 }) false (s .before .word .result) 0
+    (found s .bs) ++ drop 0 l)) (c .before .empty .ensures .0)
     ∙ append-nil _
     ∙ ap (λ (e : ℕ). entriesFrom Of.Order 65535 (record { origin = 65535; number = 0 }) false e 0 (found s .bs)) (end-is s)
 
@@ -56,4 +58,7 @@ goals-spec =
     (λ c κs. search needs)
     (λ c κs. search needs)
     (λ c κs. ((found (c .before) .bs, walk (c .before), c .before .word2 .ensures ∙ found (c .before) .count), (omega arith, omega (arith, few (c .before), c .empty .ensures .1))))
-    (λ c. (goals-entered (start (c .before .before) .pre) _ _ (found (c .before .before)) (c .entered .result) (entries-are c), omega (arith, c .entered .ensures .1, c .before .empty .ensures .1, few (c .before .before)))))
+    (λ c. (
+      goals-entered (start (c .before .before) .pre) _ _ (found (c .before .before)) (c .entered .result) (entries-are c),
+      omega (arith, c .entered .ensures .1, c .before .empty .ensures .1, few (c .before .before)),
+    )))

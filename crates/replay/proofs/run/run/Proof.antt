@@ -131,7 +131,8 @@ run-spec =
     -- returns
     (λ c.
     let v = c .before .before .before .before .before in
-    let q = subst (λ (d : Decision). Took (shop v) (order v) (i v) (record { move = move v; place = place v }) (s v) (ws v) d (s′ v) (ws′ v)) (c .before .before .before .decision .given .1) (comes v) in
+    let q = subst (λ (d : Decision). Took (shop v) (order v) (i v) (record { move = move v; place = place v }) (s v) (ws v) d (s′ v) (ws′ v))
+    (c .before .before .before .decision .given .1) (comes v) in
     c .refused .ensures
     ∙ ap (λ (r : Questions.Refusal). refusal [] r .answer) (c .before .at .ensures)
     ∙ run-stops (shop v) (trace v) (start v .pre .1 .0) (P₀ v) (i v) _ _ _ (here v .loop .inv .0) (more v) (move v) (place v) (move-is v) (place-is v) _ (q .0))
@@ -151,7 +152,8 @@ run-spec =
     let v = c .before .before .before .before in
     let t = takes v _ (c .before .before .decision2 .given .1) in
     let l = here v .loop in (
-      run-goes (shop v) (order v) (trace v) (start v .pre .1 .0) (P₀ v) (i v) (s v) (ws v) (l .totals) (l .inv .0) (more v) (move v) (place v) (move-is v) (place-is v) (s′ v) (ws′ v) _ t (c .with .ensures),
+      run-goes (shop v) (order v) (trace v) (start v .pre .1 .0) (P₀ v) (i v) (s v) (ws v) (l .totals) (l .inv .0) (more v) (move v) (place v)
+          (move-is v) (place-is v) (s′ v) (ws′ v) _ t (c .with .ensures),
       going-next (l .inv .1) t,
       l .inv .2,
     ))

@@ -75,7 +75,8 @@ take-spec =
     -- returns
     (λ c.
     let v = c .before .before .before .before .before in
-    let q = subst (Decides (shop v) (problemWith (shop v) (order v) (s v) (ws v)) (start v .args .step .mv) (start v .args .step .place .0)) (c .before .before .before .decision .given .1) (decides v) in
+    let q = subst (Decides (shop v) (problemWith (shop v) (order v) (s v) (ws v)) (start v .args .step .mv) (start v .args .step .place .0))
+    (c .before .before .before .decision .given .1) (decides v) in
     (q (start v .args .step .number) ∙ ap refused (sym (c .told .ensures (shop v) (order v) (kept v))), refl, refl))
     -- returns-2
     (λ c.

@@ -32,8 +32,10 @@ take-move-spec =
     ))
     (λ c.
     let s = c .before .before .before .before .before .before .before .before .before .before .before in
-    move-taken _ _ _ _ (s .pre .1 .0 .1) _ (full s) (s .pre .1 .0 .0) _ (c .before .before .before .before .before .goal .ensures) (s .args .known) (c .before .before .before .of-move .ensures) (c .before .if1 .taken) (c .taken .ensures))
+    move-taken _ _ _ _ (s .pre .1 .0 .1) _ (full s) (s .pre .1 .0 .0) _ (c .before .before .before .before .before .goal .ensures) (s .args .known)
+    (c .before .before .before .of-move .ensures) (c .before .if1 .taken) (c .taken .ensures))
     (λ c κs. search needs)
     (λ c.
     let s = c .before .before .before .before .before .before .before .before .before .before .before in
-    move-refused _ _ _ _ (s .pre .1 .0 .1) _ (full s) (s .pre .1 .0 .0) _ (c .before .before .before .before .before .goal .ensures) (s .args .known) (c .before .before .before .of-move .ensures) (c .before .if1 .left) (c .refused .ensures)))
+    move-refused _ _ _ _ (s .pre .1 .0 .1) _ (full s) (s .pre .1 .0 .0) _ (c .before .before .before .before .before .goal .ensures) (s .args .known)
+    (c .before .before .before .of-move .ensures) (c .before .if1 .left) (c .refused .ensures)))

@@ -40,4 +40,5 @@ taken-spec =
     took-action _ _ _ _ (s .pre .1 .0 .1) _ e _ (c .before .act .ensures) (c .taken2 .ensures))
     (λ c.
     let s = c .before .before .before .before .before .before .before .before .before .before in
-    took-method _ _ _ _ (s .pre .1 .0 .1) _ (c .before .before .before .known2 .given .1) _ (c .before .decomposed .ensures .0 (s .args .order .now) (s .pre .0)) (c .before .decomposed .ensures .1) (c .taken3 .ensures)))
+    took-method _ _ _ _ (s .pre .1 .0 .1) _ (c .before .before .before .known2 .given .1) _
+    (c .before .decomposed .ensures .0 (s .args .order .now) (s .pre .0)) (c .before .decomposed .ensures .1) (c .taken3 .ensures)))
