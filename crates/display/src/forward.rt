@@ -9,6 +9,8 @@ ghost use mathlib.Core.Path.{_≡_};
 ghost use Prim.Native.Nat.{_≤_, _<_};
 ghost use Rattle.spans.specs.Tables.{Indexed};
 ghost use Rattle.display.specs.Forward.{Forward};
+ghost use Rattle.hgn.specs.Network.{mostWaiting};
+ghost use Rattle.network.specs.Entries.{orderOrigin};
 
 // The question that refuses the step, its number 0 when it is taken.
 fn refusal_of(stepped: Stepped) -> Refusal
@@ -35,7 +37,7 @@ pub fn step_forward<'a>(
     place: Place,
 ) -> Refusal
     requires { ⌜ Indexed (now shop) (now order) (now tables) ⌝ }
-    requires { ⌜ (now bench .waiting .count ≤ 64) × (number < 65535) ⌝ }
+    requires { ⌜ (now bench .waiting .count ≤ mostWaiting) × (number < orderOrigin) ⌝ }
     ensures { λ r. ⌜ Forward (now (shop .entry)) (now (order .entry)) number (record { move = mv; place = place .0 }) (now (bench .entry)) r (now (bench .exit)) ⌝ }
 {
     let problem = *bench;
@@ -62,7 +64,7 @@ pub fn show_step<'a>(
     place: Place,
 ) -> Stepped
     requires { ⌜ Indexed (now shop) (now order) (now tables) ⌝ }
-    requires { ⌜ (problem .waiting .count ≤ 64) × (number < 65535) ⌝ }
+    requires { ⌜ (problem .waiting .count ≤ mostWaiting) × (number < orderOrigin) ⌝ }
     ensures { λ r. ⌜ Forward (now (shop .entry)) (now (order .entry)) number (record { move = mv; place = place .0 }) problem (r .refusal) (r .problem) ⌝ }
 {
     let mut bench = problem;

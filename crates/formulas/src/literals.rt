@@ -4,6 +4,7 @@ use crate::part;
 use crate::state;
 use reading::position::Atom;
 use reading::tag;
+use sheets::check::Shop;
 ghost use mathlib.Core.Path.{_≡_};
 ghost use mathlib.Core.List.{[], _∷_, zipWith};
 ghost use Rattle.hgn.specs.Lists.{any};
@@ -14,7 +15,13 @@ ghost use Rattle.hgn.specs.State.{allHold, formulaHolds, contains, relevant};
 ghost use Rattle.formulas.specs.Wanted.{sameOrOpposite};
 
 // The row's literal holds, if it has one: its tag is one of these two, one for true and one for false.
-fn row_holds(atoms: &[bool; 256], tag: u16, value: u16, yes: u16, no: u16) -> bool
+fn row_holds(
+    atoms: &[bool; Shop::MOST_ATOMS as usize],
+    tag: u16,
+    value: u16,
+    yes: u16,
+    no: u16,
+) -> bool
     ensures { λ r. ⌜ r ≡ allHold (now (atoms .entry)) (literals «yes» «no» (row tag value ∷ [])) ⌝ }
 {
     if tag == yes {
@@ -27,7 +34,13 @@ fn row_holds(atoms: &[bool; 256], tag: u16, value: u16, yes: u16, no: u16) -> bo
 }
 
 // Every literal of the rows with these two tags, one for true and one for false, holds.
-pub fn all_hold(atoms: &[bool; 256], tags: &[u16], values: &[u16], yes: u16, no: u16) -> bool
+pub fn all_hold(
+    atoms: &[bool; Shop::MOST_ATOMS as usize],
+    tags: &[u16],
+    values: &[u16],
+    yes: u16,
+    no: u16,
+) -> bool
     ensures { λ r. ⌜ r ≡ allHold (now (atoms .entry)) (literals «yes» «no» (zipWith row (now (tags .entry)) (now (values .entry)))) ⌝ }
 {
     let n = part::rows(tags, values);
@@ -43,7 +56,11 @@ pub fn all_hold(atoms: &[bool; 256], tags: &[u16], values: &[u16], yes: u16, no:
 }
 
 // The formula of a node's rows holds: one of its alternatives does.
-pub fn formula_holds(atoms: &[bool; 256], tags: &[u16], values: &[u16]) -> bool
+pub fn formula_holds(
+    atoms: &[bool; Shop::MOST_ATOMS as usize],
+    tags: &[u16],
+    values: &[u16],
+) -> bool
     ensures { λ r. ⌜ r ≡ formulaHolds (now (atoms .entry)) (nodeOf (zipWith row (now (tags .entry)) (now (values .entry))) .formula) ⌝ }
 {
     let n = part::rows(tags, values);

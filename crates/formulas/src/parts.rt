@@ -1,16 +1,23 @@
 // The tests on rows, asked of spans of the lent sheets. Document 01, "How a derivation runs".
 use crate::literals;
 use reading::tag;
+use sheets::check::Shop;
 use spans::index;
 use spans::index::Span;
 ghost use mathlib.Core.Path.{_≡_};
+ghost use Rattle.hgn.specs.Tag as Tag;
 ghost use Rattle.hgn.specs.Meaning.{literals, nodeOf};
 ghost use Rattle.hgn.specs.State.{allHold, formulaHolds, relevant};
 ghost use Rattle.spans.specs.Index.{spanRows};
 
 // The needs among these rows hold.
-pub fn needs_hold<'a>(atoms: &[bool; 256], shop: &'a [u16], order: &'a [u16], rows: Span) -> bool
-    ensures { λ r. ⌜ r ≡ allHold (now (atoms .entry)) (literals 3 4 (spanRows (now (shop .entry)) (now (order .entry)) rows)) ⌝ }
+pub fn needs_hold<'a>(
+    atoms: &[bool; Shop::MOST_ATOMS as usize],
+    shop: &'a [u16],
+    order: &'a [u16],
+    rows: Span,
+) -> bool
+    ensures { λ r. ⌜ r ≡ allHold (now (atoms .entry)) (literals Tag.needsTrue Tag.needsFalse (spanRows (now (shop .entry)) (now (order .entry)) rows)) ⌝ }
 {
     let tags = index::tags_of(rows, shop, order);
     let values = index::values_of(rows, shop, order);
@@ -18,7 +25,12 @@ pub fn needs_hold<'a>(atoms: &[bool; 256], shop: &'a [u16], order: &'a [u16], ro
 }
 
 // The formula of a node with these rows holds.
-pub fn goal_holds<'a>(atoms: &[bool; 256], shop: &'a [u16], order: &'a [u16], rows: Span) -> bool
+pub fn goal_holds<'a>(
+    atoms: &[bool; Shop::MOST_ATOMS as usize],
+    shop: &'a [u16],
+    order: &'a [u16],
+    rows: Span,
+) -> bool
     ensures { λ r. ⌜ r ≡ formulaHolds (now (atoms .entry)) (nodeOf (spanRows (now (shop .entry)) (now (order .entry)) rows) .formula) ⌝ }
 {
     let tags = index::tags_of(rows, shop, order);

@@ -1,6 +1,7 @@
 // States, as a set of atoms. Document 01, "How a derivation runs".
 use crate::part;
 use reading::position::Atom;
+use sheets::check::Shop;
 ghost use mathlib.Core.Path.{_≡_};
 ghost use mathlib.Core.List.{zipWith};
 ghost use Rattle.hgn.specs.Rows.{row, valuesOf};
@@ -8,24 +9,21 @@ ghost use Rattle.hgn.specs.State.{emptyState, literalHolds, assign};
 
 // For each atom, whether it is in.
 pub struct State {
-    pub atoms: [bool; 256],
+    pub atoms: [bool; Shop::MOST_ATOMS as usize],
 }
 
 impl State {
-    // The most atoms of a shop sheet.
-    pub const MOST: usize = 256;
-
     pub fn empty() -> State
         ensures { λ r. ⌜ r .atoms ≡ emptyState ⌝ }
     {
         State {
-            atoms: [false; 256],
+            atoms: [false; Shop::MOST_ATOMS as usize],
         }
     }
 }
 
 // The literal, an atom and its sign, holds.
-pub fn holds(atoms: &[bool; 256], atom: Atom, sign: bool) -> bool
+pub fn holds(atoms: &[bool; Shop::MOST_ATOMS as usize], atom: Atom, sign: bool) -> bool
     ensures { λ r. ⌜ r ≡ literalHolds (now (atoms .entry)) (record { sign = sign; atom = atom .0 }) ⌝ }
 {
     let at = atom.0 as usize;
@@ -56,7 +54,13 @@ pub fn assign(atoms: &mut [bool], tags: &[u16], values: &[u16], tag: u16, to: bo
 }
 
 // A copy of the atoms in which those of the rows with this tag are put in (true) or taken out (false).
-pub fn assigned(atoms: [bool; 256], tags: &[u16], values: &[u16], tag: u16, to: bool) -> [bool; 256]
+pub fn assigned(
+    atoms: [bool; Shop::MOST_ATOMS as usize],
+    tags: &[u16],
+    values: &[u16],
+    tag: u16,
+    to: bool,
+) -> [bool; Shop::MOST_ATOMS as usize]
     ensures { λ r. ⌜ r ≡ assign to (valuesOf tag (zipWith row (now (tags .entry)) (now (values .entry)))) atoms ⌝ }
 {
     let mut next = atoms;

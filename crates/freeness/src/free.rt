@@ -9,9 +9,10 @@ ghost use mathlib.Core.Bool.{_&&_};
 ghost use mathlib.Core.List.{List, zipWith};
 ghost use Prim.Native.Nat.{ℕ, _≤_};
 ghost use lib.Dec.{eqb};
+ghost use Rattle.hgn.specs.Tag as Tag;
 ghost use Rattle.hgn.specs.Lists.{among};
 ghost use Rattle.hgn.specs.Rows.{row, valuesOf};
-ghost use Rattle.hgn.specs.Network.{comesAfter, free, anyFree};
+ghost use Rattle.hgn.specs.Network.{comesAfter, free, anyFree, mostWaiting};
 ghost use Rattle.spans.specs.Index.{spanRows};
 ghost use Rattle.network.specs.Entries.{waitingOf, listOf, entryAt};
 ghost use Rattle.freeness.specs.Seeing.{Sees};
@@ -34,7 +35,7 @@ fn is_after(tag: u16, value: u16, number: u16) -> bool
 
 // The number stands in the 11 rows of a node.
 fn stands_in_afters(tags: &[u16], values: &[u16], number: u16) -> bool
-    ensures { λ r. ⌜ r ≡ among number (valuesOf 11 (zipWith row (now (tags .entry)) (now (values .entry)))) ⌝ }
+    ensures { λ r. ⌜ r ≡ among number (valuesOf Tag.after (zipWith row (now (tags .entry)) (now (values .entry)))) ⌝ }
 {
     let mut i = 0;
     while i < tags.len() {
@@ -51,7 +52,7 @@ fn stands_in_afters(tags: &[u16], values: &[u16], number: u16) -> bool
 
 // The tags up to the last 11, behind which no 11 row stands.
 fn after_tags(tags: &[u16]) -> &[u16]
-    ensures { λ r. ⌜ ((vs : List ℕ) → valuesOf 11 (zipWith row (now r) vs) ≡ valuesOf 11 (zipWith row (now (tags .entry)) vs)) ⌝ }
+    ensures { λ r. ⌜ ((vs : List ℕ) → valuesOf Tag.after (zipWith row (now r) vs) ≡ valuesOf Tag.after (zipWith row (now (tags .entry)) vs)) ⌝ }
 {
     let mut end = tags.len();
     while 0 < end {
@@ -66,8 +67,8 @@ fn after_tags(tags: &[u16]) -> &[u16]
 // The goal, whose 11 rows are these, comes after the node of its network with this number: by its 11 rows, or as its method's last
 // node.
 fn comes_after_node(tags: &[u16], values: &[u16], goal: Entry, number: u16) -> bool
-    ensures { λ r. ⌜ ((shop order : List ℕ) → valuesOf 11 (zipWith row (now (tags .entry)) (now (values .entry)))
-        ≡ valuesOf 11 (spanRows shop order (goal .rows)) → r ≡ among number (waitingOf shop order goal .after)) ⌝ }
+    ensures { λ r. ⌜ ((shop order : List ℕ) → valuesOf Tag.after (zipWith row (now (tags .entry)) (now (values .entry)))
+        ≡ valuesOf Tag.after (spanRows shop order (goal .rows)) → r ≡ among number (waitingOf shop order goal .after)) ⌝ }
 {
     let name = goal.name;
     if goal.last {
@@ -79,8 +80,8 @@ fn comes_after_node(tags: &[u16], values: &[u16], goal: Entry, number: u16) -> b
 // The goal, whose 11 rows are these, comes after the other: in their network, or because the other came with a method used at the
 // goal.
 fn comes_after(tags: &[u16], values: &[u16], goal: Entry, other: Entry) -> bool
-    ensures { λ r. ⌜ ((shop order : List ℕ) → valuesOf 11 (zipWith row (now (tags .entry)) (now (values .entry)))
-        ≡ valuesOf 11 (spanRows shop order (goal .rows)) → r ≡ comesAfter (waitingOf shop order goal) (waitingOf shop order other)) ⌝ }
+    ensures { λ r. ⌜ ((shop order : List ℕ) → valuesOf Tag.after (zipWith row (now (tags .entry)) (now (values .entry)))
+        ≡ valuesOf Tag.after (spanRows shop order (goal .rows)) → r ≡ comesAfter (waitingOf shop order goal) (waitingOf shop order other)) ⌝ }
 {
     let name = goal.name;
     let theirs = other.name;
@@ -97,7 +98,7 @@ fn comes_after(tags: &[u16], values: &[u16], goal: Entry, other: Entry) -> bool
 
 // The goal at a place, and whether it is free. Its rows are cut out of the sheet once.
 pub fn look<'a>(shop: &'a [u16], order: &'a [u16], waiting: Waiting, place: Place) -> Seen
-    requires { ⌜ waiting .count ≤ 64 ⌝ }
+    requires { ⌜ waiting .count ≤ mostWaiting ⌝ }
     ensures { λ r. ⌜ Sees (now (shop .entry)) (now (order .entry)) waiting (place .0) r ⌝ }
 {
     let at = place.0 as usize;
@@ -128,7 +129,7 @@ pub fn look<'a>(shop: &'a [u16], order: &'a [u16], waiting: Waiting, place: Plac
 
 // The goal at a place is free.
 pub fn is_free<'a>(shop: &'a [u16], order: &'a [u16], waiting: Waiting, place: Place) -> bool
-    requires { ⌜ waiting .count ≤ 64 ⌝ }
+    requires { ⌜ waiting .count ≤ mostWaiting ⌝ }
     ensures { λ r. ⌜ r ≡ free (listOf (now (shop .entry)) (now (order .entry)) waiting) (waitingOf (now (shop .entry)) (now (order .entry)) (entryAt waiting (place .0))) ⌝ }
 {
     let seen = look(shop, order, waiting, place);
@@ -137,7 +138,7 @@ pub fn is_free<'a>(shop: &'a [u16], order: &'a [u16], waiting: Waiting, place: P
 
 // Some waiting goal is free.
 pub fn any_free<'a>(shop: &'a [u16], order: &'a [u16], waiting: Waiting) -> bool
-    requires { ⌜ waiting .count ≤ 64 ⌝ }
+    requires { ⌜ waiting .count ≤ mostWaiting ⌝ }
     ensures { λ r. ⌜ r ≡ anyFree (listOf (now (shop .entry)) (now (order .entry)) waiting) ⌝ }
 {
     let count = waiting.count;

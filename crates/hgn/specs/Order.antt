@@ -8,7 +8,6 @@ use Rattle.hgn.specs.Questions.{Question, _asks_, Verdict, firstNo}
 use Rattle.hgn.specs.Rows.{Row, word, rowsOf, mostRows, rowQuestions, positionAfter}
 use Rattle.hgn.specs.Tag.{orderFollow, opening, mayEnd}
 use Rattle.hgn.specs.Meaning.{Order, orderOf}
-use Rattle.hgn.specs.Network.{mostWaiting}
 use Rattle.hgn.specs.Shop
 
 -- The sizes F, G and N.
@@ -20,6 +19,10 @@ goalCount sheet = word sheet 1
 
 abbrev pub rowCount : List ℕ → ℕ
 rowCount sheet = word sheet 2
+
+-- The most goals of an order, all of which wait when a run starts.
+abbrev pub mostGoals : ℕ
+mostGoals = 64
 
 -- The words before the rows.
 abbrev pub sizeWords : ℕ
@@ -34,7 +37,7 @@ order sheet = orderOf (orderRows sheet)
 
 unfoldable pub sizesInRange : List ℕ → List ℕ → Bool
 sizesInRange shop sheet =
-    eqb (atomCount sheet) (Shop.atomCount shop) && leb (goalCount sheet) mostWaiting && leb (rowCount sheet) mostRows
+    eqb (atomCount sheet) (Shop.atomCount shop) && leb (goalCount sheet) mostGoals && leb (rowCount sheet) mostRows
 
 -- "May it end here? 17. G nodes? 18."
 unfoldable pub orderEndQuestions : List ℕ → List Question

@@ -31,6 +31,13 @@ movesFound d g = map (moveOfBlock d) (found g)
 abbrev pub problemAt : List ℕ → List ℕ → State → Waiting → Problem
 problemAt shop order s w = record { state = s; waiting = listOf shop order w }
 
+-- The most moves that are gathered, and the most steps that they are said to take: more are left out, since fewer moves are needed too.
+abbrev pub mostGathered : ℕ
+mostGathered = 511
+
+abbrev pub mostWeight : ℕ
+mostWeight = 60000
+
 -- The moves found are needed, different and marked, and `weight` is at most the number of steps that they take together.
 pub record Holds (r : Rules) (P : Problem) (g : Gathered) : Type 0 where
   pub within : (b : ℕ) → List·Memᴰ b (found g) → b < length (r .domain .actions) + length (r .domain .methods)
@@ -38,9 +45,9 @@ pub record Holds (r : Rules) (P : Problem) (g : Gathered) : Type 0 where
   pub marks : (b : ℕ) → List·Memᴰ b (found g) → getD (g .marked) b false ≡ true
   pub different : Different (movesFound (r .domain) g)
   pub weighs : g .weight ≤ weights (r .domain) (movesFound (r .domain) g)
-  pub light : g .weight ≤ 60000
-  pub fits : g .count ≤ 511
-  pub size : length (g .blocks) ≡ 511
+  pub light : g .weight ≤ mostWeight
+  pub fits : g .count ≤ mostGathered
+  pub size : length (g .blocks) ≡ mostGathered
 
 -- The literal holds at some time in every accepted trace: where it does not at first, its only maker is needed.
 abbrev pub Wanted : Literal → Rules → Problem → Type 0

@@ -4,6 +4,7 @@ use mathlib.Core.Bool.{Bool, cond}
 use mathlib.Core.List.{List, [], _∷_}
 use lib.Dec.{eqb}
 use lib.ListN.{length, getD, set}
+use Rattle.hgn.specs.Tag as Tag
 use Rattle.hgn.specs.Meaning.{Literal, Domain, literals, nodeOf}
 use Rattle.hgn.specs.State.{mostAtoms, relevant}
 use Rattle.spans.specs.declared.index.Span.{Span}
@@ -12,7 +13,11 @@ use Rattle.spans.specs.Index.{spanRows, spanOf}
 use Rattle.spans.specs.Tables.{Bounds}
 use Rattle.pruning.specs.Needed.{OnlyMaker}
 
--- Where the table has a literal: two words an atom, for false and for true.
+-- The words of the table: two an atom, for false and for true.
+abbrev pub makersWords : ℕ
+makersWords = 2 * mostAtoms
+
+-- Where the table has a literal.
 abbrev pub indexOf : ℕ → Bool → ℕ
 indexOf atom sign = 2 * atom + cond sign 1 0
 
@@ -34,5 +39,5 @@ marked k (l ∷ ls) table =
 -- The effects among these rows are relevant to the node with those.
 abbrev pub boundRelevant : List ℕ → List ℕ → Span → Bounds → Bool
 boundRelevant shop order effects b =
-    relevant (literals 5 6 (spanRows shop order effects))
+    relevant (literals Tag.makesTrue Tag.makesFalse (spanRows shop order effects))
     (nodeOf (spanRows shop order (spanOf Of.Shop (b .from) (b .to))) .formula)

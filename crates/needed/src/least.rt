@@ -7,6 +7,7 @@ use reading::position::Atom;
 use reading::tag;
 use scan::rows::Row;
 use scan::rows::word;
+use sheets::check::Shop;
 use spans::index;
 use spans::index::Span;
 use spans::operators;
@@ -16,6 +17,7 @@ ghost use mathlib.Core.Bool.{true};
 ghost use mathlib.Core.List.{List, [], _∷_, zipWith};
 ghost use mathlib.Core.Option.{none};
 ghost use Prim.Native.Nat.{ℕ, _+_, _-_, _<_, _≤_};
+ghost use Rattle.hgn.specs.Tag as Tag;
 ghost use Rattle.hgn.specs.Rows.{row};
 ghost use Rattle.hgn.specs.Meaning.{literals, nodeOf};
 ghost use Rattle.hgn.specs.State.{State};
@@ -28,11 +30,12 @@ ghost use Rattle.steps.specs.Steps.{problemIn};
 ghost use Rattle.pruning.specs.Pruned.{prunedOf};
 ghost use Rattle.needed.specs.Tables.{OnlyMakers};
 ghost use Rattle.needed.specs.Gathered.{problemAt, Holds, moveOfBlock, Wanted, WantedAll, WantedFormula, WithBlock, WithMakers, Onward, OnwardFrom, OfGoals};
+ghost use Rattle.hgn.specs.Network.{mostWaiting};
 
 // The needed moves found so far, as blocks: action k is block k - 1, and the methods follow the actions, as in the table of starts.
 pub struct Gathered {
-    pub marked: [bool; 511],
-    pub blocks: [u16; 511],
+    pub marked: [bool; Gathered::MOST],
+    pub blocks: [u16; Gathered::MOST],
     pub count: u16,
     pub weight: u16,
 }
@@ -49,8 +52,8 @@ impl Gathered {
         ensures { λ r. ⌜ ((shop : List ℕ) (P : Run.Problem) → Holds (rulesOf shop) P r) ⌝ }
     {
         Gathered {
-            marked: [false; 511],
-            blocks: [0; 511],
+            marked: [false; Gathered::MOST],
+            blocks: [0; Gathered::MOST],
             count: 0,
             weight: 0,
         }
@@ -92,18 +95,18 @@ impl Gathered {
     // The moves gathered, with the only action that makes a literal, an atom and its sign, if the literal does not hold.
     fn with_maker(
         self,
-        atoms: &[bool; 256],
-        table: [u16; 512],
+        atoms: &[bool; Shop::MOST_ATOMS as usize],
+        table: [u16; makers::WORDS],
         actions: u16,
-        atom: u16,
+        atom: Atom,
         sign: bool,
     ) -> Gathered
-        ensures { λ r. ⌜ WithMakers (Wanted (record { sign = sign; atom = atom })) (now (atoms .entry)) table actions self r ⌝ }
+        ensures { λ r. ⌜ WithMakers (Wanted (record { sign = sign; atom = atom .0 })) (now (atoms .entry)) table actions self r ⌝ }
     {
-        if 256 <= atom {
+        if Shop::MOST_ATOMS <= atom.0 {
             return self;
         }
-        if state::holds(atoms, Atom(atom), sign) {
+        if state::holds(atoms, atom, sign) {
             return self;
         }
         let at = makers::index_of(atom, sign);
@@ -120,8 +123,8 @@ impl Gathered {
     // The moves gathered, with the only maker of the row's literal, if it has one: its tag is one of these two, one for true and one for false.
     fn with_row(
         self,
-        atoms: &[bool; 256],
-        table: [u16; 512],
+        atoms: &[bool; Shop::MOST_ATOMS as usize],
+        table: [u16; makers::WORDS],
         actions: u16,
         tag: u16,
         value: u16,
@@ -131,10 +134,10 @@ impl Gathered {
         ensures { λ r. ⌜ WithMakers (WantedAll (literals «yes» «no» (row tag value ∷ []))) (now (atoms .entry)) table actions self r ⌝ }
     {
         if tag == yes {
-            return self.with_maker(atoms, table, actions, value, true);
+            return self.with_maker(atoms, table, actions, Atom(value), true);
         }
         if tag == no {
-            return self.with_maker(atoms, table, actions, value, false);
+            return self.with_maker(atoms, table, actions, Atom(value), false);
         }
         self
     }
@@ -142,8 +145,8 @@ impl Gathered {
     // The moves gathered, with the only makers of the literals of the rows with these two tags.
     fn with_rows(
         self,
-        atoms: &[bool; 256],
-        table: [u16; 512],
+        atoms: &[bool; Shop::MOST_ATOMS as usize],
+        table: [u16; makers::WORDS],
         actions: u16,
         tags: &[u16],
         values: &[u16],
@@ -167,8 +170,8 @@ impl Gathered {
         self,
         shop: &'a [u16],
         order: &'a [u16],
-        atoms: &[bool; 256],
-        table: [u16; 512],
+        atoms: &[bool; Shop::MOST_ATOMS as usize],
+        table: [u16; makers::WORDS],
         actions: u16,
         rows: Span,
     ) -> Gathered
@@ -194,12 +197,12 @@ impl Gathered {
     fn of_goals<'a>(
         shop: &'a [u16],
         order: &'a [u16],
-        atoms: &[bool; 256],
-        table: [u16; 512],
+        atoms: &[bool; Shop::MOST_ATOMS as usize],
+        table: [u16; makers::WORDS],
         actions: u16,
         waiting: Waiting,
     ) -> Gathered
-        requires { ⌜ waiting .count ≤ 64 ⌝ }
+        requires { ⌜ waiting .count ≤ mostWaiting ⌝ }
         ensures { λ r. ⌜ OfGoals (problemAt (now (shop .entry)) (now (order .entry)) (now (atoms .entry)) waiting) table actions r ⌝ }
     {
         let count = waiting.count as usize;
@@ -220,8 +223,8 @@ impl Gathered {
         shop: &'a [u16],
         order: &'a [u16],
         tables: &[u16],
-        atoms: &[bool; 256],
-        table: [u16; 512],
+        atoms: &[bool; Shop::MOST_ATOMS as usize],
+        table: [u16; makers::WORDS],
         block: u16,
     ) -> Gathered
         requires { ⌜ Indexed (now shop) (now order) (now tables) × (block < actionCount (now shop) + methodCount (now shop)) × OnlyMakers (domain (now shop)) table ⌝ }
@@ -251,7 +254,7 @@ impl Gathered {
         waiting: Waiting,
         action: u16,
     ) -> Gathered
-        requires { ⌜ Indexed (now shop) (now order) (now tables) × (1 ≤ action) × (action ≤ actionCount (now shop)) × (waiting .count ≤ 64) ⌝ }
+        requires { ⌜ Indexed (now shop) (now order) (now tables) × (1 ≤ action) × (action ≤ actionCount (now shop)) × (waiting .count ≤ mostWaiting) ⌝ }
         ensures { λ r. ⌜ ((s : State) → Onward (rulesOf (now (shop .entry))) (problemAt (now (shop .entry)) (now (order .entry)) s waiting) (Run.act action) self r) ⌝ }
     {
         if makers::wanted_by(shop, order, tables, waiting, action) {
@@ -274,8 +277,8 @@ impl Gathered {
         shop: &'a [u16],
         order: &'a [u16],
         tables: &[u16],
-        atoms: &[bool; 256],
-        table: [u16; 512],
+        atoms: &[bool; Shop::MOST_ATOMS as usize],
+        table: [u16; makers::WORDS],
         method: u16,
     ) -> Gathered
         requires { ⌜ Indexed (now shop) (now order) (now tables) × (method < methodCount (now shop)) × OnlyMakers (domain (now shop)) table ⌝ }
@@ -304,13 +307,13 @@ impl Gathered {
         shop: &'a [u16],
         order: &'a [u16],
         tables: &[u16],
-        atoms: &[bool; 256],
-        table: [u16; 512],
+        atoms: &[bool; Shop::MOST_ATOMS as usize],
+        table: [u16; makers::WORDS],
         waiting: Waiting,
         block: u16,
     ) -> Gathered
         requires { ⌜ Indexed (now shop) (now order) (now tables) × (block < actionCount (now shop) + methodCount (now shop))
-            × OnlyMakers (domain (now shop)) table × (waiting .count ≤ 64) ⌝ }
+            × OnlyMakers (domain (now shop)) table × (waiting .count ≤ mostWaiting) ⌝ }
         ensures { λ r. ⌜ Onward (rulesOf (now (shop .entry))) (problemAt (now (shop .entry)) (now (order .entry)) (now (atoms .entry)) waiting)
             (moveOfBlock (domain (now (shop .entry))) block) self r ⌝ }
     {
@@ -328,11 +331,11 @@ impl Gathered {
         shop: &'a [u16],
         order: &'a [u16],
         tables: &[u16],
-        atoms: &[bool; 256],
-        table: [u16; 512],
+        atoms: &[bool; Shop::MOST_ATOMS as usize],
+        table: [u16; makers::WORDS],
         waiting: Waiting,
     ) -> Gathered
-        requires { ⌜ Indexed (now shop) (now order) (now tables) × OnlyMakers (domain (now shop)) table × (waiting .count ≤ 64) ⌝ }
+        requires { ⌜ Indexed (now shop) (now order) (now tables) × OnlyMakers (domain (now shop)) table × (waiting .count ≤ mostWaiting) ⌝ }
         requires { ⌜ Holds (rulesOf (now shop)) (problemAt (now shop) (now order) (now atoms) waiting) self ⌝ }
         ensures { λ r. ⌜ Holds (rulesOf (now (shop .entry))) (problemAt (now (shop .entry)) (now (order .entry)) (now (atoms .entry)) waiting) r ⌝ }
     {
@@ -349,7 +352,8 @@ impl Gathered {
 
 // The rows of a node have one alternative, and nothing is wanted before it.
 fn one_alternative(tags: &[u16], values: &[u16]) -> bool
-    ensures { λ r. ⌜ (r ≡ true → nodeOf (zipWith row (now (tags .entry)) (now (values .entry))) .formula ≡ literals 9 10 (zipWith row (now (tags .entry)) (now (values .entry))) ∷ []) ⌝ }
+    ensures { λ r. ⌜ (r ≡ true → nodeOf (zipWith row (now (tags .entry)) (now (values .entry))) .formula
+        ≡ literals Tag.wantedTrue Tag.wantedFalse (zipWith row (now (tags .entry)) (now (values .entry))) ∷ []) ⌝ }
 {
     let n = part::rows(tags, values);
     let mut found = false;
@@ -376,7 +380,7 @@ fn one_alternative(tags: &[u16], values: &[u16]) -> bool
 
 // No accepted trace has fewer steps: a release for each goal that waits, and what the needed moves take.
 pub fn at_least<'a>(shop: &'a [u16], order: &'a [u16], tables: &[u16], problem: Problem) -> u16
-    requires { ⌜ Indexed (now shop) (now order) (now tables) × (problem .waiting .count ≤ 64) ⌝ }
+    requires { ⌜ Indexed (now shop) (now order) (now tables) × (problem .waiting .count ≤ mostWaiting) ⌝ }
     ensures { λ r. ⌜ ((k : ℕ) → k < r → (P₀ : Run.Problem) (y : Run.Step) (n : ℕ)
         → prunedOf k (rulesOf (now (shop .entry))) P₀ y n (problemIn (now (shop .entry)) (now (order .entry)) problem) ≡ none) ⌝ }
 {

@@ -3,9 +3,11 @@
 use formulas::part;
 use formulas::parts;
 use network::waiting::Waiting;
+use reading::position::Atom;
 use reading::tag;
 use scan::rows::Row;
 use scan::rows::word;
+use sheets::check::Shop;
 use spans::index;
 use spans::index::Span;
 use spans::operators;
@@ -16,10 +18,11 @@ ghost use mathlib.Core.List.{List, [], _∷_, zipWith};
 ghost use Prim.Native.Nat.{_-_, _<_, _≤_};
 ghost use lib.Dec.{eqb};
 ghost use lib.ListN.{length, getD, set};
+ghost use Rattle.hgn.specs.Tag as Tag;
 ghost use Rattle.hgn.specs.Lists.{any};
 ghost use Rattle.hgn.specs.Rows.{row};
 ghost use Rattle.hgn.specs.Meaning.{literals};
-ghost use Rattle.hgn.specs.State.{relevant};
+ghost use Rattle.hgn.specs.State.{relevant, mostAtoms};
 ghost use Rattle.hgn.specs.Run.{actionAt, methodAt};
 ghost use Rattle.hgn.specs.Shop.{domain, actionCount, methodCount};
 ghost use Rattle.hgn.specs.Replay.{rulesOf};
@@ -28,17 +31,21 @@ ghost use Rattle.spans.specs.Index.{spanRows};
 ghost use Rattle.spans.specs.Tables.{Bounds, Walk};
 ghost use Rattle.spans.specs.Tables.{Indexed};
 ghost use Rattle.pruning.specs.Needed.{OnlyMethod};
-ghost use Rattle.needed.specs.Tables.{indexOf, OnlyMakers, boundRelevant, marked};
+ghost use Rattle.needed.specs.Tables.{makersWords, indexOf, OnlyMakers, many, boundRelevant, marked};
+ghost use Rattle.hgn.specs.Network.{mostWaiting};
 
 // Stands where several actions make a literal: no action has this number.
 pub const MANY: u16 = 65535;
 
+// The words of the table: two an atom, one for each sign.
+pub const WORDS: usize = 2 * Shop::MOST_ATOMS as usize;
+
 // Where the table has a literal.
-pub fn index_of(atom: u16, sign: bool) -> usize
-    requires { ⌜ atom < 256 ⌝ }
-    ensures { λ r. ⌜ (r ≡ indexOf atom sign) × (r < 512) ⌝ }
+pub fn index_of(atom: Atom, sign: bool) -> usize
+    requires { ⌜ atom .0 < mostAtoms ⌝ }
+    ensures { λ r. ⌜ (r ≡ indexOf (atom .0) sign) × (r < makersWords) ⌝ }
 {
-    let at = atom as usize;
+    let at = atom.0 as usize;
     if sign {
         return 2 * at + 1;
     }
@@ -46,9 +53,9 @@ pub fn index_of(atom: u16, sign: bool) -> usize
 }
 
 // The action set at a place of the table; `MANY` where another stands there.
-fn with_maker(table: [u16; 512], at: usize, action: u16) -> [u16; 512]
-    requires { ⌜ at < 512 ⌝ }
-    ensures { λ r. ⌜ r ≡ set table at (cond (eqb (getD table at 0) 0) action 65535) ⌝ }
+fn with_maker(table: [u16; WORDS], at: usize, action: u16) -> [u16; WORDS]
+    requires { ⌜ at < makersWords ⌝ }
+    ensures { λ r. ⌜ r ≡ set table at (cond (eqb (getD table at 0) 0) action many) ⌝ }
 {
     let mut next = table;
     if table[at] == 0 {
@@ -60,23 +67,23 @@ fn with_maker(table: [u16; 512], at: usize, action: u16) -> [u16; 512]
 }
 
 // The action set at the literal that the row makes, if it makes one.
-fn with_row(table: [u16; 512], tag: u16, value: u16, action: u16) -> [u16; 512]
-    ensures { λ r. ⌜ r ≡ marked action (literals 5 6 (row tag value ∷ [])) table ⌝ }
+fn with_row(table: [u16; WORDS], tag: u16, value: u16, action: u16) -> [u16; WORDS]
+    ensures { λ r. ⌜ r ≡ marked action (literals Tag.makesTrue Tag.makesFalse (row tag value ∷ [])) table ⌝ }
 {
-    if value < 256 {
+    if value < Shop::MOST_ATOMS {
         if tag == tag::MAKES_TRUE {
-            return with_maker(table, index_of(value, true), action);
+            return with_maker(table, index_of(Atom(value), true), action);
         }
         if tag == tag::MAKES_FALSE {
-            return with_maker(table, index_of(value, false), action);
+            return with_maker(table, index_of(Atom(value), false), action);
         }
     }
     table
 }
 
 // The action set at each literal that its rows make.
-fn with_action(table: [u16; 512], tags: &[u16], values: &[u16], action: u16) -> [u16; 512]
-    ensures { λ r. ⌜ r ≡ marked action (literals 5 6 (zipWith row (now (tags .entry)) (now (values .entry)))) table ⌝ }
+fn with_action(table: [u16; WORDS], tags: &[u16], values: &[u16], action: u16) -> [u16; WORDS]
+    ensures { λ r. ⌜ r ≡ marked action (literals Tag.makesTrue Tag.makesFalse (zipWith row (now (tags .entry)) (now (values .entry)))) table ⌝ }
 {
     let n = part::rows(tags, values);
     let mut next = table;
@@ -90,12 +97,12 @@ fn with_action(table: [u16; 512], tags: &[u16], values: &[u16], action: u16) -> 
 }
 
 // For each literal the one action that makes it; 0 where none does, `MANY` where several do.
-pub fn makers<'a>(shop: &'a [u16], order: &'a [u16], tables: &[u16]) -> [u16; 512]
+pub fn makers<'a>(shop: &'a [u16], order: &'a [u16], tables: &[u16]) -> [u16; WORDS]
     requires { ⌜ Indexed (now shop) (now order) (now tables) ⌝ }
     ensures { λ r. ⌜ OnlyMakers (domain (now (shop .entry))) r ⌝ }
 {
     let count = word(shop, 1);
-    let mut table = [0; 512];
+    let mut table = [0; WORDS];
     let mut action: u16 = 0;
     while action < count {
         action += 1;
@@ -152,7 +159,8 @@ fn method_has<'a>(
     method: u16,
 ) -> bool
     requires { ⌜ Indexed (now shop) (now order) (now tables) × (method < methodCount (now shop)) ⌝ }
-    ensures { λ r. ⌜ r ≡ any (λ n. relevant (literals 5 6 (spanRows (now (shop .entry)) (now (order .entry)) effects)) (n .formula)) (methodAt (domain (now (shop .entry))) method .nodes) ⌝ }
+    ensures { λ r. ⌜ r ≡ any (λ n. relevant (literals Tag.makesTrue Tag.makesFalse (spanRows (now (shop .entry)) (now (order .entry)) effects))
+        (n .formula)) (methodAt (domain (now (shop .entry))) method .nodes) ⌝ }
 {
     let rows = operators::method_rows(shop, tables, method);
     has_node_for(shop, order, tables, rows, effects)
@@ -188,7 +196,7 @@ pub fn wanted_by<'a>(
     waiting: Waiting,
     action: u16,
 ) -> bool
-    requires { ⌜ Indexed (now shop) (now order) (now tables) × (1 ≤ action) × (action ≤ actionCount (now shop)) × (waiting .count ≤ 64) ⌝ }
+    requires { ⌜ Indexed (now shop) (now order) (now tables) × (1 ≤ action) × (action ≤ actionCount (now shop)) × (waiting .count ≤ mostWaiting) ⌝ }
     ensures { λ r. ⌜ r ≡ any (λ g. relevant (actionAt (domain (now (shop .entry))) action .effects) (g .formula)) (listOf (now (shop .entry)) (now (order .entry)) waiting) ⌝ }
 {
     let rows = operators::action_rows(tables, action);

@@ -10,6 +10,7 @@ ghost use mathlib.Core.Path.{_≡_};
 ghost use mathlib.Core.Bool.{cond};
 ghost use mathlib.Core.List.{zipWith};
 ghost use lib.ListN.{length};
+ghost use Rattle.hgn.specs.Tag as Tag;
 ghost use Rattle.hgn.specs.Rows.{row, valuesOf};
 ghost use Rattle.hgn.specs.Network.{isParent};
 ghost use Rattle.network.specs.Entries.{nameOf, waitingOf};
@@ -17,7 +18,7 @@ ghost use Rattle.predecessors.specs.Pending.{occurrences, listed};
 
 // How often the number stands in the 11 rows of a node.
 fn named(tags: &[u16], values: &[u16], number: u16) -> usize
-    ensures { λ r. ⌜ r ≡ occurrences number (valuesOf 11 (zipWith row (now (tags .entry)) (now (values .entry)))) ⌝ }
+    ensures { λ r. ⌜ r ≡ occurrences number (valuesOf Tag.after (zipWith row (now (tags .entry)) (now (values .entry)))) ⌝ }
 {
     let n = part::rows(tags, values);
     let mut found = 0;
@@ -36,7 +37,7 @@ fn named(tags: &[u16], values: &[u16], number: u16) -> usize
 
 // The number of 11 rows of a node.
 fn afters(tags: &[u16], values: &[u16]) -> usize
-    ensures { λ r. ⌜ r ≡ length (valuesOf 11 (zipWith row (now (tags .entry)) (now (values .entry)))) ⌝ }
+    ensures { λ r. ⌜ r ≡ length (valuesOf Tag.after (zipWith row (now (tags .entry)) (now (values .entry)))) ⌝ }
 {
     let n = part::rows(tags, values);
     let mut found = 0;

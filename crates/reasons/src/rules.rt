@@ -1,12 +1,12 @@
 // The steps that the search leaves out, one test for each reason. None stands on the first of the shortest traces.
 use formulas::literals;
 use formulas::parts;
-use formulas::state::State;
 use freeness::free;
 use network::waiting::Entry;
 use network::waiting::Place;
 use network::waiting::Waiting;
 use reading::tag;
+use sheets::check::Shop;
 use spans::index;
 use spans::index::Span;
 use spans::operators;
@@ -17,10 +17,11 @@ ghost use mathlib.Core.Path.{_≡_};
 ghost use mathlib.Core.Bool.{_&&_};
 ghost use Prim.Native.Nat.{_≤_};
 ghost use lib.ListN.{take};
+ghost use Rattle.hgn.specs.Tag as Tag;
 ghost use Rattle.hgn.specs.Lists.{any, all};
 ghost use Rattle.hgn.specs.Meaning.{literals as literalsOf};
 ghost use Rattle.hgn.specs.State.{formulaHolds, relevant};
-ghost use Rattle.hgn.specs.Network.{free as freeIn};
+ghost use Rattle.hgn.specs.Network.{free as freeIn, mostWaiting};
 ghost use Rattle.hgn.specs.Shop.{domain, actionCount, methodCount};
 ghost use Rattle.hgn.specs.Replay.{rulesOf};
 ghost use Rattle.hgn.specs.Trace.{step};
@@ -31,13 +32,14 @@ ghost use Rattle.steps.specs.Moves.{Known, knownOf};
 ghost use Rattle.steps.specs.Steps.{problemIn};
 ghost use Rattle.pruning.specs.Rules as Rules;
 ghost use Rattle.reasons.specs.Tests.{moveNumber, actionNumber, before, swapReady, crowded as isCrowded, wanted as isWanted};
+ghost use Rattle.hgn.specs.Search.{mostDepth};
 
 // What a move asks of the state at a goal: that it holds, or that the needs do.
 pub fn ready<'a>(
     shop: &'a [u16],
     order: &'a [u16],
     tables: &[u16],
-    atoms: &[bool; 256],
+    atoms: &[bool; Shop::MOST_ATOMS as usize],
     goal: Entry,
     mv: Move,
 ) -> bool
@@ -79,7 +81,7 @@ pub fn wanted<'a>(shop: &'a [u16], order: &'a [u16], tables: &[u16], goal: Entry
 
 // More goals wait after the move than steps are left after it. `count` goals wait before it.
 pub fn crowded(left: u16, count: u16, mv: Move) -> bool
-    requires { ⌜ left ≤ 32 ⌝ }
+    requires { ⌜ left ≤ mostDepth ⌝ }
     ensures { λ r. ⌜ r ≡ isCrowded left count (knownOf mv) ⌝ }
 {
     match mv {
@@ -94,7 +96,7 @@ pub fn idle<'a>(
     shop: &'a [u16],
     order: &'a [u16],
     tables: &[u16],
-    atoms: &[bool; 256],
+    atoms: &[bool; Shop::MOST_ATOMS as usize],
     mv: Move,
 ) -> bool
     requires { ⌜ Indexed (now shop) (now order) (now tables) × Known (actionCount (now shop)) (methodCount (now shop)) mv ⌝ }
@@ -120,9 +122,9 @@ fn helps_lower<'a>(
     rows: Span,
     place: Place,
 ) -> bool
-    requires { ⌜ (place .0 ≤ waiting .count) × (waiting .count ≤ 64) ⌝ }
+    requires { ⌜ (place .0 ≤ waiting .count) × (waiting .count ≤ mostWaiting) ⌝ }
     ensures { λ r. ⌜ r ≡ any
-        (λ g. relevant (literalsOf 5 6 (spanRows (now (shop .entry)) (now (order .entry)) rows)) (g .formula)
+        (λ g. relevant (literalsOf Tag.makesTrue Tag.makesFalse (spanRows (now (shop .entry)) (now (order .entry)) rows)) (g .formula)
         && freeIn (listOf (now (shop .entry)) (now (order .entry)) waiting) g)
         (take (place .0) (listOf (now (shop .entry)) (now (order .entry)) waiting)) ⌝ }
 {
@@ -152,7 +154,7 @@ pub fn lower_too<'a>(
     place: Place,
 ) -> bool
     requires { ⌜ Indexed (now shop) (now order) (now tables) × Known (actionCount (now shop)) (methodCount (now shop)) mv ⌝ }
-    requires { ⌜ (place .0 ≤ waiting .count) × (waiting .count ≤ 64) ⌝ }
+    requires { ⌜ (place .0 ≤ waiting .count) × (waiting .count ≤ mostWaiting) ⌝ }
     ensures { λ r. ⌜ r ≡ Rules.lowerToo (rulesOf (now (shop .entry))) (listOf (now (shop .entry)) (now (order .entry)) waiting) (place .0) (knownOf mv) ⌝ }
 {
     match mv {
@@ -166,8 +168,13 @@ pub fn lower_too<'a>(
 }
 
 // Every waiting goal holds.
-fn goals_hold<'a>(shop: &'a [u16], order: &'a [u16], atoms: &[bool; 256], waiting: Waiting) -> bool
-    requires { ⌜ waiting .count ≤ 64 ⌝ }
+fn goals_hold<'a>(
+    shop: &'a [u16],
+    order: &'a [u16],
+    atoms: &[bool; Shop::MOST_ATOMS as usize],
+    waiting: Waiting,
+) -> bool
+    requires { ⌜ waiting .count ≤ mostWaiting ⌝ }
     ensures { λ r. ⌜ r ≡ all (λ g. formulaHolds (now (atoms .entry)) (g .formula)) (listOf (now (shop .entry)) (now (order .entry)) waiting) ⌝ }
 {
     let count = waiting.count as usize;
@@ -186,7 +193,7 @@ fn goals_hold<'a>(shop: &'a [u16], order: &'a [u16], atoms: &[bool; 256], waitin
 
 // Too few steps are left for the goals that wait: each takes a release, and one more step is wanted where one of them does not hold.
 pub fn too_few_left<'a>(shop: &'a [u16], order: &'a [u16], problem: Problem, left: u16) -> bool
-    requires { ⌜ problem .waiting .count ≤ 64 ⌝ }
+    requires { ⌜ problem .waiting .count ≤ mostWaiting ⌝ }
     ensures { λ r. ⌜ r ≡ Rules.tooFewLeft left (problemIn (now (shop .entry)) (now (order .entry)) problem) ⌝ }
 {
     let waiting = problem.waiting;
@@ -235,9 +242,9 @@ pub fn state_after<'a>(
     shop: &'a [u16],
     order: &'a [u16],
     tables: &[u16],
-    atoms: [bool; 256],
+    atoms: [bool; Shop::MOST_ATOMS as usize],
     mv: Move,
-) -> [bool; 256]
+) -> [bool; Shop::MOST_ATOMS as usize]
     requires { ⌜ Indexed (now shop) (now order) (now tables) × Known (actionCount (now shop)) (methodCount (now shop)) mv ⌝ }
     ensures { λ r. ⌜ r ≡ Rules.stateAfter (domain (now (shop .entry))) atoms (knownOf mv) ⌝ }
 {
@@ -251,11 +258,11 @@ pub fn state_after<'a>(
     }
 }
 
-fn same_state(a: [bool; 256], b: [bool; 256]) -> bool
+fn same_state(a: [bool; Shop::MOST_ATOMS as usize], b: [bool; Shop::MOST_ATOMS as usize]) -> bool
     ensures { λ r. ⌜ r ≡ Rules.sameState a b ⌝ }
 {
     let mut i = 0;
-    while i < State::MOST {
+    while i < Shop::MOST_ATOMS as usize {
         if a[i] == b[i] {
             i += 1;
         } else {
@@ -270,7 +277,7 @@ fn commute<'a>(
     shop: &'a [u16],
     order: &'a [u16],
     tables: &[u16],
-    atoms: [bool; 256],
+    atoms: [bool; Shop::MOST_ATOMS as usize],
     last: Move,
     mv: Move,
 ) -> bool
@@ -295,7 +302,7 @@ fn swap_ready<'a>(
     shop: &'a [u16],
     order: &'a [u16],
     tables: &[u16],
-    atoms: [bool; 256],
+    atoms: [bool; Shop::MOST_ATOMS as usize],
     last_goal: Entry,
     last: Move,
     goal: Entry,
@@ -325,7 +332,7 @@ pub fn could_go_first<'a>(
     mv: Move,
     place: Place,
 ) -> bool
-    requires { ⌜ Indexed (now shop) (now order) (now tables) × (before .waiting .count ≤ 64) ⌝ }
+    requires { ⌜ Indexed (now shop) (now order) (now tables) × (before .waiting .count ≤ mostWaiting) ⌝ }
     requires { ⌜ Known (actionCount (now shop)) (methodCount (now shop)) last × Known (actionCount (now shop)) (methodCount (now shop)) mv ⌝ }
     ensures { λ r. ⌜ r ≡ Rules.couldGoFirst (domain (now (shop .entry))) (problemIn (now (shop .entry)) (now (order .entry)) before)
         (step (moveNumber last) («last_place» .0)) (step (moveNumber mv) (place .0)) ⌝ }

@@ -11,6 +11,7 @@ use Rattle.hgn.specs.Network as Network
 use Rattle.hgn.specs.Network.{goalAt, free, goalsOf}
 use Rattle.hgn.specs.Run as Run
 use Rattle.hgn.specs.Run.{Problem, moved, deedOf, taken, actionAt, planOf}
+use Rattle.hgn.specs.Tag.{mostCost}
 use Rattle.hgn.specs.Trace.{stepCount, stepsOf}
 use Rattle.hgn.specs.Shop.{domain}
 use Rattle.hgn.specs.Replay.{rulesOf}
@@ -25,7 +26,7 @@ use Rattle.predecessors.specs.Goals.{countIn, listIn, Left, Decomposed, LookedA
 use Rattle.predecessors.specs.Reaching.{ReachedAt, ListReached}
 use Rattle.predecessors.proofs.WaitingGoals.{list-length, list-at, free-at}
 use Rattle.predecessors.proofs.Reaching.{reached-first, reached-next}
-use Rattle.replay.specs.Taking.{problemWith, Kept, Going, FirstGoals, Applied, TakenBy, mostCost, TotalWith}
+use Rattle.replay.specs.Taking.{problemWith, Kept, Going, FirstGoals, Applied, TakenBy, TotalWith}
 use Rattle.replay.specs.declared.run.Totals.{Totals}
 use Rattle.replay.proofs.Running.{Running}
 use Rattle.replay.proofs.Totals.{cost-is, run-on, run-acts}

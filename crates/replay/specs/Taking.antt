@@ -6,6 +6,7 @@ use Rattle.hgn.specs.State.{State}
 use Rattle.hgn.specs.Network.{goalsOf}
 use Rattle.hgn.specs.Run as Run
 use Rattle.hgn.specs.Run.{Problem, actionAt, deedOf, moved, refused, taken, stepped}
+use Rattle.hgn.specs.Tag.{mostCost}
 use Rattle.hgn.specs.Shop.{domain, actionCount, methodCount}
 use Rattle.hgn.specs.Order as OrderSheet
 use Rattle.hgn.specs.Replay.{rulesOf}
@@ -54,10 +55,6 @@ pub record TakenBy (shop order : List ℕ) (n : ℕ) (x : Run.Step) (m : Move) (
 abbrev pub Took : List ℕ → List ℕ → ℕ → Run.Step → State → List ℕ → Decision → State → List ℕ → Type 0
 Took shop order n x s ws (Refused q) s′ ws′ = (stepped (rulesOf shop) n (problemWith shop order s ws) x ≡ refused (refusalOf q)) × (s′ ≡ s) × (ws′ ≡ ws)
 Took shop order n x s ws (Takes m) s′ ws′ = TakenBy shop order n x m s ws s′ ws′
-
--- The most that an action costs.
-abbrev pub mostCost : ℕ
-mostCost = 65535
 
 -- The totals after a move: an action counts, and costs what it costs.
 abbrev pub TotalWith : List ℕ → Move → Totals → Totals → Type 0

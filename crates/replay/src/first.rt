@@ -14,6 +14,7 @@ use reading::tag;
 use scan::rows::Row;
 use scan::rows::word;
 use sheets::check::Order;
+use sheets::check::Shop;
 use sheets::sizes::OrderSizes;
 use sheets::sizes::ShopSizes;
 use spans::index;
@@ -70,7 +71,7 @@ pub fn goals<'a>(shop: &'a [u16], order: &'a [u16], tables: &[u16]) -> Waiting
 }
 
 // The atoms true at the start.
-pub fn start<'a>(shop: &'a [u16], order: &'a [u16]) -> [bool; 256]
+pub fn start<'a>(shop: &'a [u16], order: &'a [u16]) -> [bool; Shop::MOST_ATOMS as usize]
     requires { ⌜ OrderSheet.checkOrder (now shop) (now order) ≡ passed ⌝ }
     ensures { λ r. ⌜ r ≡ startOf (OrderSheet.order (now (order .entry))) ⌝ }
 {

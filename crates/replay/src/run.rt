@@ -18,12 +18,13 @@ ghost use mathlib.Core.List.{List};
 ghost use Prim.Native.Nat.{ℕ, _≤_, _+_, _*_};
 ghost use lib.ListN.{length};
 ghost use Rattle.hgn.specs.Shop.{actionCount, methodCount};
+ghost use Rattle.hgn.specs.Tag.{mostCost};
 ghost use Rattle.hgn.specs.Trace.{mostSteps, stepCount};
 ghost use Rattle.spans.specs.Tables.{Indexed};
 ghost use Rattle.steps.specs.Moves.{Known};
 ghost use Rattle.predecessors.specs.Goals.{countIn};
 ghost use Rattle.replay.specs.Answers.{answerOf, runAnswer, endAnswer};
-ghost use Rattle.replay.specs.Taking.{problemWith, mostCost, FirstGoals, TotalWith};
+ghost use Rattle.replay.specs.Taking.{problemWith, FirstGoals, TotalWith};
 
 // How many actions were taken, and the sum of their costs.
 pub struct Totals {

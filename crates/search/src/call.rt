@@ -19,11 +19,12 @@ ghost use Rattle.hgn.specs.Questions.{passed};
 ghost use Rattle.hgn.specs.Order.{checkOrder};
 ghost use Rattle.hgn.specs.Replay.{rulesOf};
 ghost use Rattle.hgn.specs.Search as Search;
-ghost use Rattle.hgn.specs.Search.{searched};
+ghost use Rattle.hgn.specs.Search.{searched, mostDepth};
 ghost use Rattle.spans.specs.Tables.{Indexed};
 ghost use Rattle.steps.specs.Steps.{problemIn};
 ghost use Rattle.pruning.specs.Pruned.{prunedShortest};
 ghost use Rattle.search.specs.Founds.{searchedOf, shortestOf, traceOf};
+ghost use Rattle.hgn.specs.Network.{mostWaiting};
 
 // The first of the shortest traces and its length; or no trace, and then the depth.
 pub struct Shortest {
@@ -39,7 +40,7 @@ fn deepen<'a>(
     first: Problem,
     depth: u16,
 ) -> Shortest
-    requires { ⌜ Indexed (now shop) (now order) (now tables) × (first .waiting .count ≤ 64) × (depth ≤ 32) ⌝ }
+    requires { ⌜ Indexed (now shop) (now order) (now tables) × (first .waiting .count ≤ mostWaiting) × (depth ≤ mostDepth) ⌝ }
     ensures { λ r. ⌜ (shortestOf r ≡ prunedShortest depth (rulesOf (now (shop .entry))) (problemIn (now (shop .entry)) (now (order .entry)) first)) × (r .length ≤ depth) ⌝ }
 {
     let mut left = least::at_least(shop, order, tables, first);
@@ -72,7 +73,7 @@ fn deepen<'a>(
 
 // The shortest trace of sheets that passed, found with the index in tables that are lent.
 fn search_indexed<'a>(shop: &'a [u16], order: &'a [u16], depth: u16, tables: &mut [u16]) -> Shortest
-    requires { ⌜ (checkOrder (now shop) (now order) ≡ passed) × (depth ≤ 32) ⌝ }
+    requires { ⌜ (checkOrder (now shop) (now order) ≡ passed) × (depth ≤ mostDepth) ⌝ }
     requires { ⌜ mostRows + suc (mostActions + mostMethods) ≤ length (now tables) ⌝ }
     ensures { λ r. ⌜ (shortestOf r ≡ searched (now (shop .entry)) (now (order .entry)) depth) × (r .length ≤ depth) ⌝ }
 {
@@ -82,7 +83,7 @@ fn search_indexed<'a>(shop: &'a [u16], order: &'a [u16], depth: u16, tables: &mu
 
 // The shortest trace of sheets that passed. The tables of their index have the largest sheet's size, since no size is known before.
 fn search_checked<'a>(shop: &'a [u16], order: &'a [u16], depth: u16) -> Shortest
-    requires { ⌜ (checkOrder (now shop) (now order) ≡ passed) × (depth ≤ 32) ⌝ }
+    requires { ⌜ (checkOrder (now shop) (now order) ≡ passed) × (depth ≤ mostDepth) ⌝ }
     ensures { λ r. ⌜ (shortestOf r ≡ searched (now (shop .entry)) (now (order .entry)) depth) × (r .length ≤ depth) ⌝ }
 {
     let mut tables = [0u16; Tables::WORDS];
@@ -90,8 +91,8 @@ fn search_checked<'a>(shop: &'a [u16], order: &'a [u16], depth: u16) -> Shortest
 }
 
 // The first words of a list, so many, go into the room from `at` on.
-fn write_words(room: &mut [u16], at: usize, words: [u16; 32], count: usize)
-    requires { ⌜ (at + count ≤ length (now room)) × (count ≤ 32) ⌝ }
+fn write_words(room: &mut [u16], at: usize, words: [u16; Found::MOST as usize], count: usize)
+    requires { ⌜ (at + count ≤ length (now room)) × (count ≤ mostDepth) ⌝ }
     ensures { λ _. ⌜ now (room .exit) ≡ paste (now (room .entry)) at words count ⌝ }
 {
     let mut i = 0;
@@ -103,7 +104,7 @@ fn write_words(room: &mut [u16], at: usize, words: [u16; 32], count: usize)
 
 // L, then L moves, then L places, into the first words of the room.
 fn write_trace(room: &mut [u16], found: Shortest)
-    requires { ⌜ (1 + (found .length + found .length) ≤ length (now room)) × (found .length ≤ 32) ⌝ }
+    requires { ⌜ (1 + (found .length + found .length) ≤ length (now room)) × (found .length ≤ mostDepth) ⌝ }
     ensures { λ _. ⌜ now (room .exit) ≡ traceOf found (now (room .entry)) ⌝ }
 {
     let count = found.length as usize;

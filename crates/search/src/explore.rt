@@ -12,7 +12,7 @@ use steps::problem::Problem;
 ghost use mathlib.Core.Path.{_≡_};
 ghost use mathlib.Core.Bool.{true};
 ghost use Prim.Native.Nat.{_≤_, _<_, _+_, _-_};
-ghost use Rattle.hgn.specs.Network.{free as freeIn, goalAt};
+ghost use Rattle.hgn.specs.Network.{free as freeIn, goalAt, mostWaiting};
 ghost use Rattle.hgn.specs.Shop.{domain, actionCount, methodCount};
 ghost use Rattle.hgn.specs.Replay.{rulesOf};
 ghost use Rattle.hgn.specs.Trace.{step};
@@ -24,6 +24,7 @@ ghost use Rattle.pruning.specs.Pruned.{prunedOf, movesFrom};
 ghost use Rattle.search.specs.Founds.{foundOf};
 ghost use Rattle.reasons.specs.Tests.{moveNumber};
 ghost use Rattle.search.specs.Trials.{tried};
+ghost use Rattle.hgn.specs.Search.{mostDepth};
 
 // The first trace of so many steps from a record on, none of them left out. The last step was taken from the record `before`.
 pub fn places<'a>(
@@ -38,7 +39,7 @@ pub fn places<'a>(
     number: u16,
 ) -> Found
     requires { ⌜ Indexed (now shop) (now order) (now tables) ⌝ }
-    requires { ⌜ (problem .waiting .count ≤ 64) × (before .waiting .count ≤ 64) × (number + left ≤ 32) ⌝ }
+    requires { ⌜ (problem .waiting .count ≤ mostWaiting) × (before .waiting .count ≤ mostWaiting) × (number + left ≤ mostDepth) ⌝ }
     requires { ⌜ Known (actionCount (now shop)) (methodCount (now shop)) last ⌝ }
     ensures { λ r. ⌜ foundOf number left r ≡ prunedOf left (rulesOf (now (shop .entry))) (problemIn (now (shop .entry)) (now (order .entry)) before)
         (step (moveNumber last) («last_place» .0)) number (problemIn (now (shop .entry)) (now (order .entry)) problem) ⌝ }
@@ -90,7 +91,7 @@ pub fn moves<'a>(
     place: Place,
 ) -> Found
     requires { ⌜ Indexed (now shop) (now order) (now tables) ⌝ }
-    requires { ⌜ (problem .waiting .count ≤ 64) × (before .waiting .count ≤ 64) × (number + left ≤ 32) × (1 ≤ left) ⌝ }
+    requires { ⌜ (problem .waiting .count ≤ mostWaiting) × (before .waiting .count ≤ mostWaiting) × (number + left ≤ mostDepth) × (1 ≤ left) ⌝ }
     requires { ⌜ Known (actionCount (now shop)) (methodCount (now shop)) last ⌝ }
     requires { ⌜ (place .0 < problem .waiting .count) × (goal ≡ entryAt (problem .waiting) (place .0)) ⌝ }
     requires { ⌜ freeIn (listOf (now shop) (now order) (problem .waiting)) (goalAt (listOf (now shop) (now order) (problem .waiting)) (place .0)) ≡ true ⌝ }
@@ -136,7 +137,7 @@ pub fn moves<'a>(
                     number + 1,
                 );
                 if r.found {
-                    return r.with(number, moves::number_of(mv), place.0);
+                    return r.with(number, moves::number_of(mv), place);
                 }
             }
         }

@@ -2,22 +2,24 @@
 use network::waiting::Entry;
 use network::waiting::Place;
 use reasons::rules;
+use sheets::check::Shop;
 use steps::moves::Move;
 use steps::problem::Problem;
 use steps::step;
 ghost use mathlib.Core.Path.{_≡_};
 ghost use mathlib.Core.Bool.{true, false};
 ghost use Prim.Native.Nat.{_≤_, _<_};
-ghost use Rattle.hgn.specs.Network.{free, goalAt};
+ghost use Rattle.hgn.specs.Network.{free, goalAt, mostWaiting};
 ghost use Rattle.hgn.specs.Shop.{domain, actionCount, methodCount};
 ghost use Rattle.hgn.specs.Replay.{rulesOf};
 ghost use Rattle.hgn.specs.Trace.{step};
-ghost use Rattle.network.specs.Entries.{listOf, waitingOf};
+ghost use Rattle.network.specs.Entries.{listOf, waitingOf, orderOrigin};
 ghost use Rattle.spans.specs.Tables.{Indexed};
 ghost use Rattle.steps.specs.Moves.{Known, knownOf};
 ghost use Rattle.pruning.specs.Rules.{idle};
 ghost use Rattle.reasons.specs.Tests.{moveNumber};
 ghost use Rattle.search.specs.Trials.{opens, Tries};
+ghost use Rattle.hgn.specs.Search.{mostDepth};
 
 // A step that was taken and kept, with the record that it leaves; or the record as it was.
 pub struct Tried {
@@ -43,13 +45,13 @@ pub fn open_at<'a>(
     shop: &'a [u16],
     order: &'a [u16],
     tables: &[u16],
-    atoms: &[bool; 256],
+    atoms: &[bool; Shop::MOST_ATOMS as usize],
     goal: Entry,
     left: u16,
     count: u16,
     mv: Move,
 ) -> bool
-    requires { ⌜ Indexed (now shop) (now order) (now tables) × Known (actionCount (now shop)) (methodCount (now shop)) mv × (left ≤ 32) ⌝ }
+    requires { ⌜ Indexed (now shop) (now order) (now tables) × Known (actionCount (now shop)) (methodCount (now shop)) mv × (left ≤ mostDepth) ⌝ }
     ensures { λ r. ⌜ r ≡ opens (rulesOf (now (shop .entry))) (now (atoms .entry)) (waitingOf (now (shop .entry)) (now (order .entry)) goal) left count (knownOf mv) ⌝ }
 {
     if rules::crowded(left, count, mv) {
@@ -81,7 +83,7 @@ pub fn try_step<'a>(
     place: Place,
 ) -> Tried
     requires { ⌜ Indexed (now shop) (now order) (now tables) ⌝ }
-    requires { ⌜ (place .0 < problem .waiting .count) × (problem .waiting .count ≤ 64) × (before .waiting .count ≤ 64) × (number < 65535) ⌝ }
+    requires { ⌜ (place .0 < problem .waiting .count) × (problem .waiting .count ≤ mostWaiting) × (before .waiting .count ≤ mostWaiting) × (number < orderOrigin) ⌝ }
     requires { ⌜ Known (actionCount (now shop)) (methodCount (now shop)) last × Known (actionCount (now shop)) (methodCount (now shop)) mv ⌝ }
     requires { ⌜ free (listOf (now shop) (now order) (problem .waiting)) (goalAt (listOf (now shop) (now order) (problem .waiting)) (place .0)) ≡ true ⌝ }
     requires { ⌜ idle (domain (now shop)) (problem .atoms) (knownOf mv) ≡ false ⌝ }

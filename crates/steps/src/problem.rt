@@ -3,11 +3,13 @@ use formulas::state;
 use network::waiting::Waiting;
 use reading::refusal::Refusal;
 use reading::tag;
+use sheets::check::Shop;
 use spans::index;
 use spans::index::Span;
 use spans::operators;
 ghost use mathlib.Core.Path.{_≡_};
 ghost use Prim.Native.Nat.{_≤_};
+ghost use Rattle.hgn.specs.Tag as Tag;
 ghost use Rattle.hgn.specs.Questions.{passed, told};
 ghost use Rattle.hgn.specs.Meaning.{literals};
 ghost use Rattle.reading.specs.Refusals.{refusalOf};
@@ -18,7 +20,7 @@ ghost use Rattle.spans.specs.Index.{spanRows};
 ghost use Rattle.spans.specs.Tables.{Indexed};
 
 pub struct Problem {
-    pub atoms: [bool; 256],
+    pub atoms: [bool; Shop::MOST_ATOMS as usize],
     pub waiting: Waiting,
 }
 
@@ -29,7 +31,7 @@ pub struct Stepped {
 }
 
 impl Stepped {
-    pub fn taken(atoms: [bool; 256], waiting: Waiting) -> Stepped
+    pub fn taken(atoms: [bool; Shop::MOST_ATOMS as usize], waiting: Waiting) -> Stepped
         ensures { λ r. ⌜ (refusalOf (r .refusal) ≡ told passed) × (r .problem ≡ record { atoms = atoms; waiting = waiting }) ⌝ }
     {
         let refusal = Refusal::none();
@@ -53,8 +55,13 @@ impl Stepped {
 }
 
 // An action with these rows changes the state where it stands: less what it makes false, with what it makes true.
-pub fn change<'a>(atoms: &mut [bool; 256], shop: &'a [u16], order: &'a [u16], rows: Span)
-    ensures { λ _. ⌜ now (atoms .exit) ≡ γ (now (atoms .entry)) (literals 5 6 (spanRows (now (shop .entry)) (now (order .entry)) rows)) ⌝ }
+pub fn change<'a>(
+    atoms: &mut [bool; Shop::MOST_ATOMS as usize],
+    shop: &'a [u16],
+    order: &'a [u16],
+    rows: Span,
+)
+    ensures { λ _. ⌜ now (atoms .exit) ≡ γ (now (atoms .entry)) (literals Tag.makesTrue Tag.makesFalse (spanRows (now (shop .entry)) (now (order .entry)) rows)) ⌝ }
 {
     let tags = index::tags_of(rows, shop, order);
     let values = index::values_of(rows, shop, order);
@@ -63,8 +70,13 @@ pub fn change<'a>(atoms: &mut [bool; 256], shop: &'a [u16], order: &'a [u16], ro
 }
 
 // A copy of the state, changed by an action with these rows.
-pub fn changed<'a>(atoms: [bool; 256], shop: &'a [u16], order: &'a [u16], rows: Span) -> [bool; 256]
-    ensures { λ r. ⌜ r ≡ γ atoms (literals 5 6 (spanRows (now (shop .entry)) (now (order .entry)) rows)) ⌝ }
+pub fn changed<'a>(
+    atoms: [bool; Shop::MOST_ATOMS as usize],
+    shop: &'a [u16],
+    order: &'a [u16],
+    rows: Span,
+) -> [bool; Shop::MOST_ATOMS as usize]
+    ensures { λ r. ⌜ r ≡ γ atoms (literals Tag.makesTrue Tag.makesFalse (spanRows (now (shop .entry)) (now (order .entry)) rows)) ⌝ }
 {
     let mut next = atoms;
     change(&mut next, shop, order, rows);
@@ -73,7 +85,7 @@ pub fn changed<'a>(atoms: [bool; 256], shop: &'a [u16], order: &'a [u16], rows: 
 
 // An action by its number changes the state where it stands.
 pub fn act<'a>(
-    atoms: &mut [bool; 256],
+    atoms: &mut [bool; Shop::MOST_ATOMS as usize],
     shop: &'a [u16],
     order: &'a [u16],
     tables: &[u16],

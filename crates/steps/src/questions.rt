@@ -9,6 +9,7 @@ use network::waiting::Waiting;
 use reading::refusal::Refusal;
 use reading::tag;
 use scan::rows::word;
+use sheets::check::Shop;
 use spans::index::Span;
 use spans::operators;
 ghost use mathlib.Core.Path.{_≡_};
@@ -21,6 +22,7 @@ ghost use Rattle.network.specs.Entries.{listOf};
 ghost use Rattle.steps.specs.Moves.{Known, knownOf};
 ghost use Rattle.spans.specs.Tables.{Indexed};
 ghost use Rattle.steps.specs.Deciding.{OfAction, Answers, toldOf, SeenIn, Decides};
+ghost use Rattle.hgn.specs.Network.{mostWaiting};
 
 // The first question that fails, or the move that may be taken.
 pub enum Decision {
@@ -32,7 +34,7 @@ pub enum Decision {
 fn of_action<'a>(
     shop: &'a [u16],
     order: &'a [u16],
-    atoms: &[bool; 256],
+    atoms: &[bool; Shop::MOST_ATOMS as usize],
     rows: Span,
     goal: Span,
 ) -> Refusal
@@ -53,13 +55,13 @@ fn of_method<'a>(
     shop: &'a [u16],
     order: &'a [u16],
     tables: &[u16],
-    atoms: &[bool; 256],
+    atoms: &[bool; Shop::MOST_ATOMS as usize],
     method: u16,
     goal: Span,
     count: u16,
 ) -> Refusal
     requires { ⌜ Indexed (now shop) (now order) (now tables) ⌝ }
-    requires { ⌜ (method < methodCount (now shop)) × (count ≤ 64) ⌝ }
+    requires { ⌜ (method < methodCount (now shop)) × (count ≤ mostWaiting) ⌝ }
     ensures { λ r. ⌜ Answers (now (shop .entry)) (now (order .entry)) (now (atoms .entry)) goal count (Run.use-method method) r ⌝ }
 {
     let rows = operators::method_rows(shop, tables, method);
@@ -83,13 +85,13 @@ pub fn of_move<'a>(
     shop: &'a [u16],
     order: &'a [u16],
     tables: &[u16],
-    atoms: &[bool; 256],
+    atoms: &[bool; Shop::MOST_ATOMS as usize],
     known: Move,
     goal: Span,
     count: u16,
 ) -> Refusal
     requires { ⌜ Indexed (now shop) (now order) (now tables) ⌝ }
-    requires { ⌜ Known (actionCount (now shop)) (methodCount (now shop)) known × (count ≤ 64) ⌝ }
+    requires { ⌜ Known (actionCount (now shop)) (methodCount (now shop)) known × (count ≤ mostWaiting) ⌝ }
     ensures { λ r. ⌜ Answers (now (shop .entry)) (now (order .entry)) (now (atoms .entry)) goal count (knownOf known) r ⌝ }
 {
     match known {
@@ -113,13 +115,13 @@ pub fn decide<'a>(
     shop: &'a [u16],
     order: &'a [u16],
     tables: &[u16],
-    atoms: &[bool; 256],
+    atoms: &[bool; Shop::MOST_ATOMS as usize],
     seen: Seen,
     count: u16,
     mv: u16,
     place: Place,
 ) -> Decision
-    requires { ⌜ Indexed (now shop) (now order) (now tables) × (count ≤ 64) ⌝ }
+    requires { ⌜ Indexed (now shop) (now order) (now tables) × (count ≤ mostWaiting) ⌝ }
     ensures { λ r. ⌜ ((P : Problem) → SeenIn (now (shop .entry)) (now (order .entry)) (now (atoms .entry)) count seen P (place .0) → Decides (now (shop .entry)) P mv (place .0) r) ⌝ }
 {
     if place.0 < count {
@@ -144,7 +146,7 @@ pub fn decide<'a>(
 
 // What is told of a refusal: 27 for 28 where no waiting goal is free.
 pub fn told<'a>(shop: &'a [u16], order: &'a [u16], waiting: Waiting, refusal: Refusal) -> Refusal
-    requires { ⌜ waiting .count ≤ 64 ⌝ }
+    requires { ⌜ waiting .count ≤ mostWaiting ⌝ }
     ensures { λ r. ⌜ refusalOf r ≡ toldOf (listOf (now (shop .entry)) (now (order .entry)) waiting) (refusalOf refusal) ⌝ }
 {
     if refusal.number == 28 {

@@ -13,11 +13,12 @@ ghost use Prim.Native.Nat.{_≤_, _<_};
 ghost use Rattle.hgn.specs.Run.{stepped};
 ghost use Rattle.hgn.specs.Shop.{domain, actionCount, methodCount};
 ghost use Rattle.hgn.specs.Replay.{rulesOf};
-ghost use Rattle.network.specs.Entries.{entryAt};
+ghost use Rattle.network.specs.Entries.{entryAt, orderOrigin};
 ghost use Rattle.steps.specs.Steps.{problemIn, Applied, Asked, Is};
 ghost use Rattle.spans.specs.Tables.{Indexed};
 ghost use Rattle.steps.specs.Moves.{Known, knownOf};
 ghost use Rattle.steps.specs.Deciding.{Room};
+ghost use Rattle.hgn.specs.Network.{mostWaiting};
 
 // The move at a place whose goal has this name, where every question was answered yes.
 fn taken<'a>(
@@ -31,8 +32,8 @@ fn taken<'a>(
     place: Place,
 ) -> Stepped
     requires { ⌜ Indexed (now shop) (now order) (now tables) ⌝ }
-    requires { ⌜ (place .0 < problem .waiting .count) × (problem .waiting .count ≤ 64) × (name ≡ entryAt (problem .waiting) (place .0) .name) ⌝ }
-    requires { ⌜ Known (actionCount (now shop)) (methodCount (now shop)) known × (number < 65535) × Room (domain (now shop)) (problem .waiting .count) known ⌝ }
+    requires { ⌜ (place .0 < problem .waiting .count) × (problem .waiting .count ≤ mostWaiting) × (name ≡ entryAt (problem .waiting) (place .0) .name) ⌝ }
+    requires { ⌜ Known (actionCount (now shop)) (methodCount (now shop)) known × (number < orderOrigin) × Room (domain (now shop)) (problem .waiting .count) known ⌝ }
     ensures { λ r. ⌜ Applied (now (shop .entry)) (now (order .entry)) number (place .0) (knownOf known) problem r ⌝ }
 {
     let mut atoms = problem.atoms;
@@ -64,8 +65,8 @@ pub fn take_move<'a>(
     place: Place,
 ) -> Stepped
     requires { ⌜ Indexed (now shop) (now order) (now tables) ⌝ }
-    requires { ⌜ (place .0 < problem .waiting .count) × (problem .waiting .count ≤ 64) ⌝ }
-    requires { ⌜ Known (actionCount (now shop)) (methodCount (now shop)) known × (number < 65535) ⌝ }
+    requires { ⌜ (place .0 < problem .waiting .count) × (problem .waiting .count ≤ mostWaiting) ⌝ }
+    requires { ⌜ Known (actionCount (now shop)) (methodCount (now shop)) known × (number < orderOrigin) ⌝ }
     ensures { λ r. ⌜ Asked (now (shop .entry)) (now (order .entry)) number (place .0) (knownOf known) problem r ⌝ }
 {
     let atoms = problem.atoms;
@@ -98,7 +99,7 @@ pub fn step<'a>(
     place: Place,
 ) -> Stepped
     requires { ⌜ Indexed (now shop) (now order) (now tables) ⌝ }
-    requires { ⌜ (problem .waiting .count ≤ 64) × (number < 65535) ⌝ }
+    requires { ⌜ (problem .waiting .count ≤ mostWaiting) × (number < orderOrigin) ⌝ }
     ensures { λ r. ⌜ Is (now (shop .entry)) (now (order .entry))
         (stepped (rulesOf (now (shop .entry))) number (problemIn (now (shop .entry)) (now (order .entry)) problem) (record { move = mv; place = place .0 })) problem r ⌝ }
 {

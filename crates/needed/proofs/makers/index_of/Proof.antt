@@ -10,6 +10,7 @@ index-of-spec =
     (tie.spec
     (λ c. search needs)
     (λ c. search needs)
-    (λ c. index-true (c .if1 .taken) (c .before .pre))
     (λ c. search needs)
-    (λ c. index-false (c .if1 .left) (c .before .pre)))
+    (λ c. index-true (c .if1 .taken) (c .before .before .pre))
+    (λ c. search needs)
+    (λ c. index-false (c .if1 .left) (c .before .before .pre)))

@@ -4,6 +4,7 @@ use native.Mathlib.Omega.{arith}
 use mathlib.Core.Path.{_≡_, refl}
 use lib.ListN.{length, drop}
 use borrow.Author.Needs.{needs}
+use Rattle.hgn.specs.State.{mostAtoms}
 use Rattle.pruning.specs.Rules.{sameState}
 use Rattle.reasons.proofs.Lower.{same-end, same-on, same-not}
 use Rattle.reasons.proofs.rules.same_state.Statement.{statement}
@@ -13,9 +14,9 @@ abbrev Inv-loop : tie.InvT-loop
 Inv-loop a b i₀ i = sameState a b ≡ sameState (drop i a) (drop i b)
 
 abbrev μ-loop : tie.MeasureT-loop
-μ-loop a b i₀ i = 256 - i
+μ-loop a b i₀ i = mostAtoms - i
 
-sizes : (s : tie.Start Inv-loop μ-loop) → (length (s .args .t1) ≡ 256) × (length (s .args .t2) ≡ 256)
+sizes : (s : tie.Start Inv-loop μ-loop) → (length (s .args .t1) ≡ mostAtoms) × (length (s .args .t2) ≡ mostAtoms)
 sizes s = (search needs, search needs)
 
 pub same-state-spec : {M : Type 1} → statement M
@@ -25,6 +26,7 @@ same-state-spec =
     Inv-loop
     μ-loop
     (λ c. refl)
+    (λ c. search needs)
     (λ c. search needs)
     (λ c. search needs)
     (λ c. search needs)

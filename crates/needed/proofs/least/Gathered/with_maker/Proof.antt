@@ -8,7 +8,7 @@ returns-5 : tie.Need-returns-5
 returns-5 c shop P is e o h k =
     let f = c .before .before .before .before in
     let b = f .before .before in
-    maker-added shop P (b .before .args .t3) _ _ _ (b .if1 .left) (f .before .holds .ensures) (f .if2 .left) (c .before .before .before .index-of .ensures .0)
+    maker-added shop P (b .before .before .args .t3) _ _ _ (b .if1 .left) (f .before .holds .ensures) (f .if2 .left) (c .before .before .before .index-of .ensures .0)
     (c .before .before .if3 .left) (c .before .if4 .left) (c .add .ensures) is e o h k
 
 pub with-maker-spec : {M : Type 1} → statement M

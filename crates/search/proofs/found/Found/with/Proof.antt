@@ -17,6 +17,6 @@ with-spec =
     (λ c. search needs)
     (λ c. (
       refl,
-      step-first (c .args .number) (c .args .mv) (c .args .place) (c .args .self) _
+      step-first (c .args .number) (c .args .mv) (c .args .place .0) (c .args .self) _
           (omega (arith, simp length-map at (c .good .0 .1 .1 .1 .0 .1 .0 .1))) (omega (arith, simp length-map at (c .good .0 .1 .1 .1 .1 .0 .1 .0 .1))) refl refl,
     )))
