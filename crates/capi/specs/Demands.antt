@@ -30,8 +30,8 @@ replayedIn plan answer atoms = record {
 abbrev pub searchedIn : List ℕ → List ℕ → Searched
 searchedIn room answer = record { refusal = refusalIn answer; room = room }
 
--- What a caller of the replay may rely on. What is read is the definition's record; so on sheets that pass, with room enough, it is one of the replays of
--- which hgn's `Demand3OfReplays` speaks.
+-- What a caller of the replay may rely on. What is read is the definition's record; so on sheets that pass, with room enough, it is one of
+-- the replays of which hgn's `Demand3OfReplays` speaks.
 pub record OfReplay (shop sheet trace room plan answer atoms : List ℕ) : Type 0 where
   pub is : replayedIn plan answer atoms ≡ replay shop sheet trace room
   pub demand-1 : ReplayAnswers shop sheet trace room (replayedIn plan answer atoms)

@@ -255,7 +255,7 @@ pub record JoinOfReplays (shop first second trace : List ℕ) : Type 0 where
   pub one-cut : (c e : ℕ) (p : Parts shop first second trace c) (q : Parts shop first second trace e)
       → BothAccept p → BothAccept q → c ≡ e
   pub results : (k : Whole shop first second trace) (c : ℕ) (p : Parts shop first second trace c) → BothAccept p → OneAfterOther k p
-  -- Acceptance on the join by the cut of orders and states, which asks for no replay of the parts.
+  -- Both parts are accepted exactly at a cut of orders and states; so acceptance on the join can be told by the cut, with no replay of the parts.
   pub cut-iff : (c : ℕ) (p : Parts shop first second trace c) → BothAccept p ↔ CutAt shop first second trace c
   pub accepted-cut : (k : Whole shop first second trace) → Accepting (k .call) ↔ ((c : ℕ) × CutAt shop first second trace c)
   -- "So where the two orders have more than 64 goals together, no trace is accepted on the join and no cut will do."

@@ -21,16 +21,16 @@ use Rattle.network.specs.declared.waiting.Entry.{Entry}
 use Rattle.predecessors.specs.declared.goals.Entering.{Entering}
 use Rattle.predecessors.specs.Pending.{listed, Counted}
 
--- How many words a goal has, and which of them is which.
+-- How many words a goal has, and which of them is its count; `entryFrom` says what the others are.
 abbrev pub fields : ℕ
 fields = 8
 
 abbrev pub pendingField : ℕ
 pendingField = 7
 
--- The words of the most goals, and one for how many wait.
+-- The words of the most goals that may wait, and one for how many do.
 abbrev pub goalsWords : ℕ
-goalsWords = 513
+goalsWords = 1 + Network.mostWaiting * fields
 
 abbrev pub countIn : List ℕ → ℕ
 countIn ws = getD ws 0 0
@@ -77,7 +77,7 @@ goalsIn ws = goalsFrom ws 0 (countIn ws)
 abbrev pub listIn : List ℕ → List ℕ → List ℕ → List Network.Waiting
 listIn shop order ws = map (waitingOf shop order) (goalsIn ws)
 
--- The counts of every place; those behind the last goal are free.
+-- The counts of every place; those behind the last goal may be anything.
 abbrev pub countsIn : List ℕ → List ℕ
 countsIn ws = countsFrom ws 0 Network.mostWaiting
 
@@ -85,10 +85,6 @@ countsIn ws = countsFrom ws 0 Network.mostWaiting
 pub record Within (ws : List ℕ) : Type 0 where
   pub size : length ws ≡ goalsWords
   pub few : countIn ws ≤ Network.mostWaiting
-
--- The words of one goal are those of another.
-abbrev pub SameGoal : List ℕ → ℕ → List ℕ → ℕ → Type 0
-SameGoal ws p ws′ q = (f : ℕ) → f < fields → fieldIn ws p f ≡ fieldIn ws′ q f
 
 -- A goal with its count is written at place `p`.
 pub record Put (p : ℕ) (e : Entry) (pending : ℕ) (ws ws′ : List ℕ) : Type 0 where
