@@ -8,21 +8,21 @@ use mathlib.Core.Logic.{_≢_, ⊎-elim}
 use mathlib.Core.List.{List, [], _∷_, _++_, map, map-append, List·Memᴰ, List·Memᴰ·head, List·Memᴰ·tail, List·Memᴰ·not-nil, List·Memᴰ·append-cases, List·Memᴰ·eq-of-singleton, Memᴰ·of-map}
 use mathlib.Core.Option.{none}
 use lib.Dec.{ltb}
-use lib.ListN.{length, take, getD, set, length-set}
-use lib.Seq.{take-suc-set, getD-set-same, getD-set-other, getD-take, length-take-le}
+use lib.ListN.{length, take, drop, getD, set, length-set, length-drop}
+use lib.Seq.{take-suc-set, take-set-le, drop-set-lt, drop-set-add, getD-set-same, getD-set-other, getD-take, getD-drop, length-take-le}
 use borrow.Author.Tests.{ltb-false, lt-ltb, le-ltb}
 use Rattle.hgn.specs.Meaning.{Domain}
-use Rattle.hgn.specs.State.{State, literalHolds}
+use Rattle.hgn.specs.State.{State, literalHolds, mostAtoms}
 use Rattle.hgn.specs.Run.{Step, Move, act, use-method, methodAt, Problem, Rules}
 use Rattle.hgn.specs.Shop.{domain}
 use Rattle.hgn.specs.Replay.{rulesOf}
-use Rattle.hgn.proofs.Tests.{false-not-true, at-mem, at-of-lt}
+use Rattle.hgn.proofs.Tests.{at-mem, at-of-lt}
 use Rattle.pruning.specs.Pruned.{prunedOf}
 use Rattle.pruning.specs.Needed.{Needed, weight, weights, Different}
 use Rattle.pruning.proofs.Counted.{none-shorter}
-use Rattle.needed.specs.Tables.{indexOf, OnlyMakers}
-use Rattle.needed.specs.Gathered.{Wanted, moveOfBlock, found, movesFound, Holds, WithBlock}
-use Rattle.needed.specs.declared.least.Gathered.{Gathered}
+use Rattle.needed.specs.Tables.{indexOf, OnlyAchievers}
+use Rattle.needed.specs.Gathered.{mostGathered, mostSteps, marksAt, operatorsAt, gatheredWords, foundCount, foundSteps, markIn, operatorIn}
+use Rattle.needed.specs.Gathered.{moveOfOperator, found, movesFound, Holds, Wanted, WithOperator}
 
 -- One element more at the end.
 members : (P : ℕ → Type 0) {l r : List ℕ} {x : ℕ} → r ≡ l ++ (x ∷ []) → ((b : ℕ) → List·Memᴰ b l → P b) → P x
@@ -42,10 +42,10 @@ unfolding weights
 weights-more d [] m = omega arith
 weights-more d (y ∷ ms) m = omega (arith, weights-more d ms m)
 
--- Two blocks are two moves.
-same-block : (d : Domain) (a b : ℕ) → moveOfBlock d a ≡ moveOfBlock d b → a ≡ b
-unfolding moveOfBlock
-same-block d a b e = go (ltb a (length (d .actions))) (ltb b (length (d .actions))) refl refl e
+-- Two operators are two moves.
+same-operator : (d : Domain) (a b : ℕ) → moveOfOperator d a ≡ moveOfOperator d b → a ≡ b
+unfolding moveOfOperator
+same-operator d a b e = go (ltb a (length (d .actions))) (ltb b (length (d .actions))) refl refl e
   where
     go : (p q : Bool) → ltb a (length (d .actions)) ≡ p → ltb b (length (d .actions)) ≡ q
         → cond p (act (suc a)) (use-method (a - length (d .actions))) ≡ cond q (act (suc b)) (use-method (b - length (d .actions))) → a ≡ b
@@ -56,100 +56,150 @@ same-block d a b e = go (ltb a (length (d .actions))) (ltb b (length (d .actions
         let z : a - length (d .actions) ≡ b - length (d .actions) = cc in
         omega (arith, ltb-false a (length (d .actions)) h, ltb-false b (length (d .actions)) k)
 
-pub nothing : (r : Rules) (P : Problem) (g : Gathered) → g .count ≡ 0 → g .weight ≡ 0 → length (g .blocks) ≡ 511 → Holds r P g
-nothing r P g c v size =
-    let e : found g ≡ [] = rw c refl in record {
-      within = λ b i. absurd (List·Memᴰ·not-nil (subst (List·Memᴰ b) e i));
-      needed = λ b i. absurd (List·Memᴰ·not-nil (subst (List·Memᴰ b) e i));
-      marks = λ b i. absurd (List·Memᴰ·not-nil (subst (List·Memᴰ b) e i));
-      different = rw e tt;
-      weighs = omega arith;
-      light = omega arith;
-      fits = omega arith;
+-- Words that count no operator.
+pub nothing : (r : Rules) (P : Problem) (ws : List ℕ) → length ws ≡ gatheredWords → foundCount ws ≡ 0 → foundSteps ws ≡ 0 → Holds r P ws
+nothing r P ws size c v =
+    let e : found ws ≡ [] = ap (λ (n : ℕ). take n (drop operatorsAt ws)) c in record {
       size = size;
-    }
-
-pub added : (g : Gathered) (block heavy : ℕ) → getD (g .marked) block false ≡ false → block < length (g .marked) → g .count < 511
-    → g .weight + heavy ≤ 60000
-    → WithBlock block heavy g (record { marked = set (g .marked) block true; blocks = set (g .blocks) (g .count) block; count = g .count + 1; weight = g .weight + heavy })
-added g block heavy new inside room few shop P known need weighed h =
-    let d = domain shop in
-    let e : take (g .count + 1) (set (g .blocks) (g .count) block) ≡ found g ++ (block ∷ []) =
-    rw add-one (take-suc-set (g .blocks) (g .count) block (omega (arith, h .size))) in
-    let f : map (moveOfBlock d) (take (g .count + 1) (set (g .blocks) (g .count) block)) ≡ movesFound d g ++ (moveOfBlock d block ∷ []) =
-    ap (map (moveOfBlock d)) e ∙ map-append (moveOfBlock d) (found g) (block ∷ []) in
-    let other : (b : ℕ) → List·Memᴰ b (found g) → b ≢ block = λ b i q. false-not-true _ new (subst (λ (k : ℕ). getD (g .marked) k false ≡ true) q (h .marks b i)) in
-    record {
-      within = members (λ b. b < length (d .actions) + length (d .methods)) e (h .within) known;
-      needed = members (λ b. Needed (rulesOf shop) P (moveOfBlock d b)) e (h .needed) need;
-      marks = members (λ b. getD (set (g .marked) block true) b false ≡ true) e
-          (λ b i. getD-set-other (g .marked) block b true false (other b i) ∙ h .marks b i)
-          (getD-set-same (g .marked) block true false inside);
-      different = subst Different (sym f)
-          (different-more (movesFound d g) (moveOfBlock d block) (h .different)
-          (λ x i q. let r = Memᴰ·of-map (moveOfBlock d) (found g) i in other (r .0) (r .1) (same-block d (r .0) block (r .2 ∙ q))));
-      weighs = omega (arith, h .weighs, ap (weights d) f, weights-more d (movesFound d g) (moveOfBlock d block));
-      light = few;
       fits = omega arith;
-      size = length-set (g .blocks) (g .count) block ∙ h .size;
+      within = λ o i. absurd (List·Memᴰ·not-nil (subst (List·Memᴰ o) e i));
+      needed = λ o i. absurd (List·Memᴰ·not-nil (subst (List·Memᴰ o) e i));
+      marks = λ o i. absurd (List·Memᴰ·not-nil (subst (List·Memᴰ o) e i));
+      different = subst (λ (l : List ℕ). Different (map (moveOfOperator (r .domain)) l)) (sym e) tt;
+      steps = omega arith;
+      few = omega arith;
     }
 
--- An action as a block.
-pub block-action : (d : Domain) (k : ℕ) → 1 ≤ k → k ≤ length (d .actions) → moveOfBlock d (k - 1) ≡ act k
-unfolding moveOfBlock
-block-action d k h b = rw (lt-ltb (k - 1) (length (d .actions)) (omega arith)) (ap act (omega arith))
+-- An operator is marked, set behind the others and counted, and its steps are added.
+module _ (ws : List ℕ) (o steps : ℕ) where
+  abbrev marked : List ℕ
+  marked = set ws (marksAt + o) 1
 
-pub block-below : (d : Domain) (b : ℕ) → b < length (d .actions) → moveOfBlock d b ≡ act (b + 1)
-unfolding moveOfBlock
-block-below d b h = rw (lt-ltb b (length (d .actions)) h, add-one)
+  abbrev listed : List ℕ
+  listed = set marked (operatorsAt + foundCount ws) o
 
-pub block-method : (d : Domain) (b m : ℕ) → b ≡ length (d .actions) + m → moveOfBlock d b ≡ use-method m
-unfolding moveOfBlock
-block-method d b m e = rw (le-ltb b (length (d .actions)) (omega arith)) (ap use-method (omega arith))
+  abbrev counted : List ℕ
+  counted = set listed 0 (foundCount ws + 1)
 
-module _ {g r : Gathered} (shop : List ℕ) (P : Problem) where
-  pub method-added : (m block heavy : ℕ) → block ≡ length (domain shop .actions) + m → m < length (domain shop .methods)
-      → heavy ≡ suc (length (methodAt (domain shop) m .nodes)) → WithBlock block heavy g r → Needed (rulesOf shop) P (use-method m)
-      → Holds (rulesOf shop) P g → Holds (rulesOf shop) P r
+  abbrev pub withOperator : List ℕ
+  withOperator = set counted 1 (foundSteps ws + steps)
+
+  -- A mark is as it was before the operator was set and counted.
+  mark-is : (p : ℕ) → foundCount ws < mostGathered → markIn withOperator p ≡ markIn marked p
+  mark-is p room =
+      getD-set-other counted 1 (marksAt + p) (foundSteps ws + steps) 0 (λ z. omega arith)
+      ∙ getD-set-other listed 0 (marksAt + p) (foundCount ws + 1) 0 (λ z. omega arith)
+      ∙ getD-set-other marked (operatorsAt + foundCount ws) (marksAt + p) o 0 (λ z. omega arith)
+
+  module _ (size : length ws ≡ gatheredWords) (room : foundCount ws < mostGathered) (inside : o < mostGathered) where
+    long : length listed ≡ gatheredWords
+    long = simp length-set size
+
+    count-added : foundCount withOperator ≡ foundCount ws + 1
+    count-added =
+        getD-set-other counted 1 0 (foundSteps ws + steps) 0 (λ z. omega arith)
+        ∙ getD-set-same listed 0 (foundCount ws + 1) 0 (omega (arith, long))
+
+    steps-added : foundSteps withOperator ≡ foundSteps ws + steps
+    steps-added = getD-set-same counted 1 (foundSteps ws + steps) 0 (omega (arith, length-set listed 0 (foundCount ws + 1), long))
+
+    mark-set : markIn withOperator o ≡ 1
+    mark-set = mark-is o room ∙ getD-set-same ws (marksAt + o) 1 0 (omega arith)
+
+    mark-kept : (p : ℕ) → p ≢ o → markIn withOperator p ≡ markIn ws p
+    mark-kept p other = mark-is p room ∙ getD-set-other ws (marksAt + o) (marksAt + p) 1 0 (λ z. other (omega arith))
+
+    operators-set : drop operatorsAt withOperator ≡ set (set (drop operatorsAt ws) (mostGathered + o) 1) (foundCount ws) o
+    operators-set =
+        drop-set-lt operatorsAt counted 1 (foundSteps ws + steps) (omega arith)
+        ∙ drop-set-lt operatorsAt listed 0 (foundCount ws + 1) (omega arith)
+        ∙ drop-set-add operatorsAt marked (foundCount ws) o
+        ∙ ap (λ (l : List ℕ). set l (foundCount ws) o)
+        (ap (λ (k : ℕ). drop operatorsAt (set ws k 1)) {x = marksAt + o} {y = operatorsAt + (mostGathered + o)} (omega arith) ∙ drop-set-add operatorsAt ws (mostGathered + o) 1)
+
+    found-more : found withOperator ≡ found ws ++ (o ∷ [])
+    found-more =
+        ap (λ (n : ℕ). take n (drop operatorsAt withOperator)) (count-added ∙ add-one (foundCount ws))
+        ∙ ap (take (suc (foundCount ws))) operators-set
+        ∙ take-suc-set (set (drop operatorsAt ws) (mostGathered + o) 1) (foundCount ws) o (simp (length-set, length-drop) (omega arith))
+        ∙ ap (λ (l : List ℕ). l ++ (o ∷ [])) (take-set-le (foundCount ws) (drop operatorsAt ws) (mostGathered + o) 1 (omega arith))
+
+    pub added : (markIn ws o ≡ 1 → ⊥) → foundSteps ws + steps ≤ mostSteps → WithOperator o steps ws withOperator
+    added new light shop P known need weighed h =
+        let d = domain shop in
+        let f : movesFound d withOperator ≡ movesFound d ws ++ (moveOfOperator d o ∷ []) =
+        ap (map (moveOfOperator d)) found-more ∙ map-append (moveOfOperator d) (found ws) (o ∷ []) in
+        let other : (p : ℕ) → List·Memᴰ p (found ws) → p ≢ o = λ p i q. new (subst (λ (k : ℕ). markIn ws k ≡ 1) q (h .marks p i)) in
+        record {
+          size = simp length-set size;
+          fits = omega (arith, count-added);
+          within = members (λ p. p < length (d .actions) + length (d .methods)) found-more (h .within) known;
+          needed = members (λ p. Needed (rulesOf shop) P (moveOfOperator d p)) found-more (h .needed) need;
+          marks = members (λ p. markIn withOperator p ≡ 1) found-more (λ p i. mark-kept p (other p i) ∙ h .marks p i) mark-set;
+          different = subst Different (sym f)
+              (different-more (movesFound d ws) (moveOfOperator d o) (h .different)
+              (λ x i q. let r = Memᴰ·of-map (moveOfOperator d) (found ws) i in other (r .0) (r .1) (same-operator d (r .0) o (r .2 ∙ q))));
+          steps = omega (arith, steps-added, h .steps, ap (weights d) f, weights-more d (movesFound d ws) (moveOfOperator d o));
+          few = omega (arith, steps-added);
+        }
+
+-- An action as an operator.
+pub operator-action : (d : Domain) (k : ℕ) → 1 ≤ k → k ≤ length (d .actions) → moveOfOperator d (k - 1) ≡ act k
+unfolding moveOfOperator
+operator-action d k h b = rw (lt-ltb (k - 1) (length (d .actions)) (omega arith)) (ap act (omega arith))
+
+pub operator-below : (d : Domain) (b : ℕ) → b < length (d .actions) → moveOfOperator d b ≡ act (b + 1)
+unfolding moveOfOperator
+operator-below d b h = rw (lt-ltb b (length (d .actions)) h, add-one)
+
+pub operator-method : (d : Domain) (b m : ℕ) → b ≡ length (d .actions) + m → moveOfOperator d b ≡ use-method m
+unfolding moveOfOperator
+operator-method d b m e = rw (le-ltb b (length (d .actions)) (omega arith)) (ap use-method (omega arith))
+
+module _ {ws ws′ : List ℕ} (shop : List ℕ) (P : Problem) where
+  pub method-added : (m o steps : ℕ) → o ≡ length (domain shop .actions) + m → m < length (domain shop .methods)
+      → steps ≡ suc (length (methodAt (domain shop) m .nodes)) → WithOperator o steps ws ws′ → Needed (rulesOf shop) P (use-method m)
+      → Holds (rulesOf shop) P ws → Holds (rulesOf shop) P ws′
   unfolding weight
-  method-added m block heavy e known weighs add n h =
-      let b = block-method (domain shop) block m e in
+  method-added m o steps e known weighs add n h =
+      let b = operator-method (domain shop) o m e in
       add shop P (omega arith) (rw b n) (rw b (omega arith)) h
 
-  -- Where the table names an action, it is the literal's only maker.
-  pub maker-added : {s : State} (table : List ℕ) (atom at : ℕ) (sign : Bool) {actions : ℕ} {told : Bool}
-      → atom < 256 → told ≡ literalHolds s (record { sign = sign; atom = atom }) → told ≡ false → at ≡ indexOf atom sign
-      → (getD table at 0 ≡ 0 → ⊥) → getD table at 0 ≤ actions → WithBlock (getD table at 0 - 1) 1 g r
-      → P .state ≡ s → length (domain shop .actions) ≡ actions → OnlyMakers (domain shop) table
-      → Wanted (record { sign = sign; atom = atom }) (rulesOf shop) P → Holds (rulesOf shop) P g → Holds (rulesOf shop) P r
+  -- Where the table names an action, it is the literal's only achiever.
+  pub achiever-added : {s : State} (table : List ℕ) (atom at : ℕ) (sign : Bool) {actions : ℕ} {told : Bool}
+      → atom < mostAtoms → told ≡ literalHolds s (record { sign = sign; atom = atom }) → told ≡ false → at ≡ indexOf atom sign
+      → (getD table at 0 ≡ 0 → ⊥) → getD table at 0 ≤ actions → WithOperator (getD table at 0 - 1) 1 ws ws′
+      → P .state ≡ s → length (domain shop .actions) ≡ actions → OnlyAchievers (domain shop) table
+      → Wanted (record { sign = sign; atom = atom }) (rulesOf shop) P → Holds (rulesOf shop) P ws → Holds (rulesOf shop) P ws′
   unfolding weight
-  maker-added table atom at sign small held f e some known add is n only wanted h =
+  achiever-added table atom at sign small held f e some known add is n only wanted h =
       let q : getD table at 0 ≡ getD table (indexOf atom sign) 0 = ap (λ (i : ℕ). getD table i 0) e in
-      let b = block-action (domain shop) (getD table at 0) (omega arith) (omega arith) in
+      let b = operator-action (domain shop) (getD table at 0) (omega arith) (omega arith) in
       let false-now = ap (λ (s : State). literalHolds s (record { sign = sign; atom = atom })) is ∙ sym held ∙ f in
       add shop P (omega arith)
       (rw b (wanted _ false-now (rw q (only (record { sign = sign; atom = atom }) small (omega arith) (omega arith)))))
       (rw b (omega arith))
       h
 
--- What the list says of the move at a place.
-module _ {r : Rules} {P : Problem} {g : Gathered} (h : Holds r P g) where
-  place-in : (i : ℕ) → i < g .count → List·Memᴰ (getD (g .blocks) i 0) (found g)
-  place-in i b =
-      subst (λ (k : ℕ). List·Memᴰ k (found g)) (getD-take (g .count) (g .blocks) i 0 b)
-      (at-mem (at-of-lt (found g) i 0 (omega (arith, length-take-le (g .count) (g .blocks) (omega (arith, h .fits, h .size))))))
+-- What the words say of the operator at a place.
+module _ {r : Rules} {P : Problem} {ws : List ℕ} (h : Holds r P ws) (i : ℕ) (b : i < foundCount ws) where
+  place-in : List·Memᴰ (operatorIn ws i) (found ws)
+  place-in =
+      subst (λ (k : ℕ). List·Memᴰ k (found ws)) (getD-take (foundCount ws) (drop operatorsAt ws) i 0 b ∙ getD-drop operatorsAt ws i 0)
+      (at-mem (at-of-lt (found ws) i 0
+      (omega (arith, length-take-le (foundCount ws) (drop operatorsAt ws) (simp length-drop (omega (arith, h .fits, h .size)))))))
 
-  pub place-known : (i : ℕ) → i < g .count → getD (g .blocks) i 0 < length (r .domain .actions) + length (r .domain .methods)
-  place-known i b = h .within _ (place-in i b)
+  pub place-known : operatorIn ws i < length (r .domain .actions) + length (r .domain .methods)
+  place-known = h .within _ place-in
 
-  pub place-needed : (i : ℕ) → i < g .count → Needed r P (moveOfBlock (r .domain) (getD (g .blocks) i 0))
-  place-needed i b = h .needed _ (place-in i b)
+  pub place-needed : Needed r P (moveOfOperator (r .domain) (operatorIn ws i))
+  place-needed = h .needed _ place-in
 
 -- No fewer steps than one for each goal and those of the moves.
-pub least-found : {r : Rules} {P : Problem} {g : Gathered} → Holds r P g → (n k : ℕ) → n ≡ length (P .waiting) → k < n + g .weight
+pub least-found : {r : Rules} {P : Problem} {ws : List ℕ} → Holds r P ws → (n k : ℕ) → n ≡ length (P .waiting) → k < n + foundSteps ws
     → (P₀ : Problem) (y : Step) (t : ℕ) → prunedOf k r P₀ y t P ≡ none
-least-found {r} {P} {g} h n k e b =
-    none-shorter r P (movesFound (r .domain) g) (h .different) needed k (omega (arith, h .weighs))
+least-found {r} {P} {ws} h n k e b =
+    none-shorter r P (movesFound (r .domain) ws) (h .different) needed k (omega (arith, h .steps))
   where
-    needed : (m : Move) → List·Memᴰ m (movesFound (r .domain) g) → Needed r P m
-    needed m i = let f = Memᴰ·of-map (moveOfBlock (r .domain)) (found g) i in subst (Needed r P) (f .2) (h .needed (f .0) (f .1))
+    needed : (m : Move) → List·Memᴰ m (movesFound (r .domain) ws) → Needed r P m
+    needed m i = let f = Memᴰ·of-map (moveOfOperator (r .domain)) (found ws) i in subst (Needed r P) (f .2) (h .needed (f .0) (f .1))

@@ -1,6 +1,6 @@
--- What the tables of only makers and only methods say, and what the functions keep of the list of needed moves.
+-- What the tables of only achievers and only methods say, and what the functions keep of the list of needed moves.
 pub mod Effects
-pub mod OnlyMade
+pub mod OnlyAchieved
 pub mod OnlyMethods
 pub mod Gathering
 pub mod Wants

@@ -1,13 +1,12 @@
 -- Which literals are wanted by rows, by goals and by moves. Assumes nothing.
-use Prim.Native.Nat.{ℕ, zero, suc, _+_, _-_, _≤_, _<_}
+use Prim.Native.Nat.{ℕ, zero, suc, _+_, _-_, _<_}
 use native.Mathlib.Omega.{arith}
 use native.Mathlib.Nat.{not-suc-le-zero}
 use mathlib.Core.Path.{_≡_, refl, sym, ap, _∙_, subst}
 use mathlib.Core.Bool.{Bool, true, false, cond, not}
-use mathlib.Core.List.{List, [], _∷_, map, zipWith, List·Memᴰ, List·Memᴰ·head, List·Memᴰ·eq-of-singleton, Memᴰ·append-left, Memᴰ·append-right, Memᴰ·map}
+use mathlib.Core.List.{List, [], _∷_, map, zipWith, List·Memᴰ, List·Memᴰ·head, List·Memᴰ·eq-of-singleton, Memᴰ·append-left, Memᴰ·append-right}
 use lib.Dec.{ltb}
 use lib.ListN.{length, getD}
-use lib.Seq.{length-take-le}
 use borrow.Author.Tests.{eq-eqb, ne-eqb, ltb-true, ltb-false}
 use Rattle.hgn.specs.Lists.{upTo, parts}
 use Rattle.hgn.specs.Rows.{Row, row, has}
@@ -18,23 +17,23 @@ use Rattle.hgn.specs.Network.{Waiting}
 use Rattle.hgn.specs.Run.{Move, noAction, act, use-method, Problem, Rules}
 use Rattle.hgn.specs.Shop.{domain, actionCount, methodCount, shopRows}
 use Rattle.hgn.specs.Replay.{rulesOf}
-use Rattle.hgn.proofs.Tests.{contains-iff, false-not-true, at-mem, at-of-lt}
+use Rattle.hgn.proofs.Tests.{contains-iff, false-not-true}
 use Rattle.hgn.proofs.Checked.{shop-counts}
-use Rattle.reading.specs.declared.position.Sheet.the-variants as Of
+use Rattle.hgn.proofs.Waiting.{goal-mem}
 use Rattle.spans.proofs.Indexed.{method-span, blocks-count, action-span}
 use Rattle.spans.specs.Index.{spanRows, tagsOf, valuesOf, span}
-use Rattle.network.specs.Entries.{waitingOf, listOf, entriesOf}
+use Rattle.network.specs.Entries.{waitingOf}
 use Rattle.spans.specs.Tables.{Indexed}
 use Rattle.spans.specs.declared.index.Span.{Span}
-use Rattle.network.specs.declared.waiting.Entry.{Entry}
-use Rattle.network.specs.declared.waiting.Waiting as Code
-use Rattle.network.proofs.Places.{entry-inside}
+use Rattle.network.specs.Goals.{countIn, entryIn, listIn}
+use Rattle.network.proofs.WaitingGoals.{list-length, list-at}
+use Rattle.steps.specs.Taking.{problemWith}
 use Rattle.formulas.proofs.ByRow.{first-row}
 use Rattle.spans.proofs.Tables.{shop-passes}
 use Rattle.pruning.specs.Needed.{Needed, needsOf}
 use Rattle.pruning.proofs.Needed.{needed-by-goal, needed-by-need}
 use Rattle.spans.proofs.Spans.{block-span, bounds}
-use Rattle.needed.specs.Gathered.{problemAt, moveOfBlock, WantedAll, WantedFormula}
+use Rattle.needed.specs.Gathered.{moveOfOperator, WantedAll, WantedFormula}
 
 -- The literal of a row.
 module _ (t f tag value : ℕ) where
@@ -132,30 +131,26 @@ pub span-rows : (P : List Row → Type 0) (shop order : List ℕ) (s : Span) {ta
 unfolding spanRows
 span-rows P shop order s t v h = rw (t, v) h
 
--- A waiting goal of the code is one of the list.
-pub entry-waits : (shop order : List ℕ) (w : Code.Waiting) (i : ℕ) (z : Entry) → i < w .count → w .count ≤ length (w .entries)
-    → List·Memᴰ (waitingOf shop order (getD (w .entries) i z)) (listOf shop order w)
-entry-waits shop order w i z b k =
-    Memᴰ·map (waitingOf shop order)
-    (subst (λ (e : Entry). List·Memᴰ e (entriesOf w)) (sym (entry-inside (w .entries) (w .count) i z z b k))
-    (at-mem (at-of-lt (entriesOf w) i z (omega (arith, length-take-le (w .count) (w .entries) k)))))
-
-pub entry-wanted : (r : Rules) (s : State) (shop order : List ℕ) (w : Code.Waiting) (i : ℕ) (z : Entry) → i < w .count → w .count ≤ length (w .entries)
-    → WantedFormula (nodeOf (spanRows shop order (getD (w .entries) i z .rows)) .formula) r (problemAt shop order s w)
+-- What the goal at a place wants is wanted.
+pub entry-wanted : (r : Rules) (s : State) (shop order ws : List ℕ) (i : ℕ) → i < countIn ws
+    → WantedFormula (nodeOf (spanRows shop order (entryIn ws i .rows)) .formula) r (problemWith shop order s ws)
 unfolding waitingOf
-entry-wanted r s shop order w i z b k = goal-wanted r (problemAt shop order s w) _ (entry-waits shop order w i z b k)
+entry-wanted r s shop order ws i b =
+    goal-wanted r (problemWith shop order s ws) (waitingOf shop order (entryIn ws i))
+    (subst (λ (g : Waiting). List·Memᴰ g (listIn shop order ws)) (list-at shop order ws i b)
+    (goal-mem (listIn shop order ws) i (omega (arith, list-length shop order ws))))
 
--- The needs of a move stand in the rows of its block.
+-- The needs of a move stand in the rows of its operator.
 module _ {shop order table : List ℕ} (ix : Indexed shop order table) (b : ℕ) (h : b < actionCount shop + methodCount shop) where
   counts : (length (domain shop .actions) ≡ actionCount shop) × (length (domain shop .methods) ≡ methodCount shop)
   counts = shop-counts shop (shop-passes ix)
 
-  block : getD (parts opens (shopRows shop)) b [] ≡ span (shopRows shop) (getD (bounds (shopRows shop)) b 0) (getD (bounds (shopRows shop)) (suc b) 0)
-  block = block-span (shopRows shop) b (omega (arith, blocks-count shop (shop-passes ix)))
+  rows-span : getD (parts opens (shopRows shop)) b [] ≡ span (shopRows shop) (getD (bounds (shopRows shop)) b 0) (getD (bounds (shopRows shop)) (suc b) 0)
+  rows-span = block-span (shopRows shop) b (omega (arith, blocks-count shop (shop-passes ix)))
 
-  block-needs : needsOf (domain shop) (moveOfBlock (domain shop) b) ≡ literals Tag.needsTrue Tag.needsFalse (getD (parts opens (shopRows shop)) b [])
-  unfolding moveOfBlock actionOf methodOf
-  block-needs = go (ltb b (length (domain shop .actions))) refl
+  operator-needs : needsOf (domain shop) (moveOfOperator (domain shop) b) ≡ literals Tag.needsTrue Tag.needsFalse (getD (parts opens (shopRows shop)) b [])
+  unfolding moveOfOperator actionOf methodOf
+  operator-needs = go (ltb b (length (domain shop .actions))) refl
     where
       go : (y : Bool) → ltb b (length (domain shop .actions)) ≡ y
           → needsOf (domain shop) (cond y (act (suc b)) (use-method (b - length (domain shop .actions))))
@@ -164,13 +159,13 @@ module _ {shop order table : List ℕ} (ix : Indexed shop order table) (b : ℕ)
           let z : suc b - 1 ≡ b = omega arith in
           ap (λ (k : ℕ). getD (domain shop .actions) k noAction .needs) z
           ∙ ap (λ (x : Action). x .needs) (action-span shop (shop-passes ix) b (omega (arith, ltb-true b (length (domain shop .actions)) y, counts .0)))
-          ∙ ap (literals Tag.needsTrue Tag.needsFalse) (sym block)
+          ∙ ap (literals Tag.needsTrue Tag.needsFalse) (sym rows-span)
       go false y =
           let z : actionCount shop + (b - length (domain shop .actions)) ≡ b = omega (arith, ltb-false b (length (domain shop .actions)) y, counts .0) in
           ap (λ (x : Method). x .needs) (method-span shop (shop-passes ix) (b - length (domain shop .actions)) (omega (arith, ltb-false b (length (domain shop .actions)) y, counts .0)))
-          ∙ rw z (ap (literals Tag.needsTrue Tag.needsFalse) (sym block))
+          ∙ rw z (ap (literals Tag.needsTrue Tag.needsFalse) (sym rows-span))
 
-  pub block-wanted : (P : Problem) (rows : Span) → spanRows shop order rows ≡ getD (parts opens (shopRows shop)) b []
-      → Needed (rulesOf shop) P (moveOfBlock (domain shop) b) → WantedAll (literals Tag.needsTrue Tag.needsFalse (spanRows shop order rows)) (rulesOf shop) P
-  block-wanted P rows e n =
-      subst (λ (ls : List Literal). WantedAll ls (rulesOf shop) P) (block-needs ∙ ap (literals Tag.needsTrue Tag.needsFalse) (sym e)) (needs-wanted (rulesOf shop) P _ n)
+  pub operator-wanted : (P : Problem) (rows : Span) → spanRows shop order rows ≡ getD (parts opens (shopRows shop)) b []
+      → Needed (rulesOf shop) P (moveOfOperator (domain shop) b) → WantedAll (literals Tag.needsTrue Tag.needsFalse (spanRows shop order rows)) (rulesOf shop) P
+  operator-wanted P rows e n =
+      subst (λ (ls : List Literal). WantedAll ls (rulesOf shop) P) (operator-needs ∙ ap (literals Tag.needsTrue Tag.needsFalse) (sym e)) (needs-wanted (rulesOf shop) P _ n)

@@ -1,39 +1,45 @@
 -- A trace has a step for each waiting goal and those of the needed moves. Assumes nothing.
+use Prim.Native.Nat.{ℕ}
 use native.Mathlib.Omega.{arith}
-use mathlib.Core.Path.{_≡_, sym, _∙_}
-use lib.ListN.{length, length-map}
+use mathlib.Core.Path.{refl, sym, _∙_}
+use lib.ListN.{length-replicate}
 use borrow.Author.Needs.{needs}
 use Rattle.hgn.proofs.Checked.{shop-counts}
 use Rattle.spans.proofs.Tables.{shop-passes}
-use Rattle.network.proofs.Goals.{list-length}
-use Rattle.needed.proofs.Gathering.{least-found}
+use Rattle.network.proofs.WaitingGoals.{list-length}
+use Rattle.needed.specs.Gathered.{gatheredWords}
+use Rattle.needed.proofs.Gathering.{nothing, least-found}
 use Rattle.needed.proofs.least.at_least.Statement.{statement}
 use Rattle.needed.proofs.least.at_least.Tie as tie
-
-full : (s : tie.Start) → length (s .args .problem .waiting .entries) ≡ 64
-full s = omega (arith, simp length-map at (s .good .1 .1 .1 .0 .1 .1 .1 .0 .1 .1 .0 .1 .0 .1))
-
-closed-requires : tie.Need-closed-requires
-closed-requires c κs =
-    let m = c .before .before .before .before .before in
-    let s = m .before .before .before .before .before in
-    ((s .pre .0, m .makers .ensures, s .pre .1), c .before .of-goals .ensures _ (shop-counts _ (shop-passes (s .pre .0)) .0 ∙ sym (m .before .word .ensures)) (m .makers .ensures))
-
-abbrev start : tie.After-struct-known2 → tie.Start
-start c = c .before .before .before .before .before .before .before .before .before .before .before .before .before
-
-returns : tie.Need-returns
-returns c k b =
-    let s = start c in
-    least-found (c .before .before .closed .ensures) _ k (sym (list-length _ _ _ (full s) (s .pre .1))) b
 
 pub at-least-spec : {M : Type 1} → statement M
 at-least-spec =
     tie.close
     (tie.spec
+    -- of-requires
     (λ c κs. search needs)
+    -- add-goals-requires
+    (λ c κs. c .before .before .before .before .before .pre .2)
+    -- close-requires
+    (λ c κs.
+    let s = c .before .before .before .before .before .before .before in (
+      (s .pre .0, s .pre .1),
+      (
+        s .pre .2,
+        c .before .add-goals .ensures _ (shop-counts _ (shop-passes (s .pre .0)) .0 ∙ sym (c .before .before .before .of .ensures .actions)) (s .pre .1)
+            (nothing _ _ _ (length-replicate {A = ℕ} gatheredWords 0) refl refl),
+      ),
+    ))
+    -- count-of-requires
     (λ c κs. search needs)
+    -- steps-of-requires
     (λ c κs. search needs)
-    closed-requires
-    (λ c. omega (arith, c .before .before .closed .ensures .light, start c .pre .1))
-    returns)
+    -- add-result
+    (λ c.
+    let r = c .before .before .before in
+    let s = r .before .before .before .before .before .before .before .before in
+    omega (arith, c .steps-of .ensures, r .close .ensures .few, c .before .before .count-of .ensures, s .pre .2 .few))
+    -- returns
+    (λ c k b.
+    let g = c .before .before .count-of in
+    least-found (c .before .before .before .close .ensures) (g .result) k (g .ensures ∙ sym (list-length _ _ _)) (omega (arith, c .steps-of .ensures))))

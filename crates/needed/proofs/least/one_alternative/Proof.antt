@@ -42,18 +42,33 @@ one-alternative-spec =
     (tie.spec
     Inv-loop
     μ-loop
+    -- rows-requires
     (λ c κs. search needs)
+    -- loop-holds
     (λ c. refl)
+    -- mul-tag
     (λ c. search needs)
+    -- shared-slice-read-tag
     (λ c. search needs)
+    -- add-i
     (λ c. search needs)
+    -- returns
     (λ c e. absurd (false-not-true _ refl e))
+    -- loop-less
     (λ c. search needs)
+    -- loop-again
     loop-again
+    -- returns-2
     (λ c e. absurd (false-not-true _ refl e))
+    -- returns-3
     (λ c e. absurd (false-not-true _ refl e))
+    -- loop-less-2
     (λ c. search needs)
+    -- loop-again-2
     loop-again-2
+    -- loop-less-3
     (λ c. search needs)
+    -- loop-again-3
     loop-again-3
+    -- returns-4
     (λ c e. one-formula _ (at-end (oneFrom _) _ _ _ _ (c .before .before .rows .ensures) (c .before .loop .inv) (c .loop-test .left) (one-ends _) ∙ e)))
