@@ -2,6 +2,7 @@
 // after it. A refused step leaves the record as it was: the next one goes on from there, as the same step of the trace.
 use crate::line;
 use display::forward;
+use network::goals;
 use network::waiting::Place;
 use replay::first;
 use scan::rows::word;
@@ -11,30 +12,32 @@ use sheets::sizes::TraceSizes;
 use spans::index::Tables;
 use steps::problem::Problem;
 use steps::problem::Stepped;
+use steps::taking::Step;
 ghost use mathlib.Core.Path.{_≡_};
 ghost use Prim.Native.Nat.{suc, _+_, _≤_};
 ghost use lib.ListN.{length};
 ghost use mir.Syntax.{w16};
 ghost use mir.Val.{Fits};
 ghost use Rattle.hgn.specs.Rows.{mostRows};
-ghost use Rattle.hgn.specs.Network.{mostWaiting};
 ghost use Rattle.hgn.specs.Shop.{mostActions, mostMethods};
 ghost use Rattle.hgn.specs.Order.{checkOrder};
 ghost use Rattle.hgn.specs.Questions.{passed};
 ghost use Rattle.spans.specs.Tables.{Indexed};
+ghost use Rattle.steps.specs.Taking.{Going};
+ghost use Rattle.display.specs.Stepping.{nextNumber};
 
 fn write_shown(shown: Stepped) {
     let refusal = shown.refusal;
     let problem = shown.problem;
     let waiting = problem.waiting;
     line::number(refusal.number as u64);
-    line::number(waiting.count as u64);
+    line::number(goals::count_of(&waiting) as u64);
 }
 
 // Only a step that is taken is counted.
 fn next_number(number: u16, answer: u16) -> u16
     requires { ⌜ Fits w16 (number + 1) ⌝ }
-    ensures { λ r. ⌜ r ≤ number + 1 ⌝ }
+    ensures { λ r. ⌜ (r ≡ nextNumber number answer) × (r ≤ number + 1) ⌝ }
 {
     if answer == 0 {
         return number + 1;
@@ -50,7 +53,7 @@ fn write_comma(at: usize) {
 
 fn write_steps<'a>(shop: &'a [u16], order: &'a [u16], trace: &[u16], tables: &[u16], first: Problem)
     requires { ⌜ Indexed (now shop) (now order) (now tables) ⌝ }
-    requires { ⌜ first .waiting .count ≤ mostWaiting ⌝ }
+    requires { ⌜ Going (now shop) (now order) 0 (first .atoms) (first .waiting) ⌝ }
 {
     let sizes = TraceSizes::of(trace);
     let steps = sizes.steps as usize;
@@ -58,11 +61,14 @@ fn write_steps<'a>(shop: &'a [u16], order: &'a [u16], trace: &[u16], tables: &[u
     let mut number: u16 = 0;
     let mut at: usize = 0;
     while at < steps {
-        let mv = word(trace, Trace::SIZES + at);
-        let place = word(trace, Trace::SIZES + steps + at);
+        let step = Step {
+            number: number,
+            mv: word(trace, Trace::SIZES + at),
+            place: Place(word(trace, Trace::SIZES + steps + at)),
+        };
         write_comma(at);
         at += 1;
-        let shown = forward::show_step(problem, shop, order, tables, number, mv, Place(place));
+        let shown = forward::show_step(problem, shop, order, tables, step);
         write_shown(shown);
         problem = shown.problem;
         let refusal = shown.refusal;

@@ -1,4 +1,4 @@
--- Stepping through a trace shows what the replay answers. Assumes nothing.
+-- Stepping through a trace shows what the replay answers, and can be done. Assumes nothing.
 use Prim.Native.Nat.{ℕ, zero, suc, _+_}
 use native.Mathlib.Omega.{arith}
 use native.Mathlib.Nat.{add-zero, zero-add}
@@ -7,6 +7,7 @@ use mathlib.Core.Logic.{_≢_}
 use mathlib.Core.List.{List, [], _∷_, _++_, append-nil, append-assoc}
 use lib.Dec.{eqb}
 use lib.ListN.{length, take}
+use borrow.Author.Tests.{eqb-true, eqb-false}
 use Rattle.hgn.specs.Questions as Questions
 use Rattle.hgn.specs.Questions.{placed, allAt, firstNo}
 use Rattle.hgn.specs.Meaning.{Domain}
@@ -25,9 +26,11 @@ use Rattle.hgn.proofs.Traces.{trace-sizes}
 use Rattle.spans.proofs.Spans.{by-test}
 use Rattle.steps.specs.Steps.{problemIn, Comes}
 use Rattle.steps.specs.declared.problem.Problem.{Problem}
+use Rattle.steps.proofs.Taken.{going-taken, going-refused}
 use Rattle.replay.proofs.Totals.{steps-length}
+use Rattle.replay.proofs.TakenSteps.{going-first}
 use Rattle.display.specs.Forward.{steppedAt}
-use Rattle.display.specs.Stepping.{Call, Calls, onward, shownBy, leftBy, DisplayShowsReplay}
+use Rattle.display.specs.Stepping.{Call, Calls, onward, shownBy, leftBy, DisplayShowsReplay, DisplayGoesOn}
 
 -- Where the number is 0, what holds of both that follow holds of both that it leads to; at any other number that is all.
 both-on : {A B : Type 0} (Q : A → B → Type 0) (a : A) (b : B) (number : ℕ) (f : number ≡ 0 → A) (g : number ≡ 0 → B) → number ≡ 0
@@ -161,3 +164,11 @@ display-shows-replay shop sheet trace room c inputs called b f cs =
           ∙ l .place ∙ zero-add _))
           (l .reached);
     }
+
+pub display-goes-on : DisplayGoesOn
+display-goes-on = record {
+  begins = λ shop sheet table b f. (ap₂ {C = Run.Problem} (λ s w. record { state = s; waiting = w }) (f .atoms) (f .goals .list), going-first (b .atoms) (f .goals));
+  goes-on = λ shop sheet n x b c g. by-test (eqb (c .answer .number) 0)
+      (λ z. rw z (going-taken x g (c .forward) (eqb-true _ _ z)))
+      (λ z. rw z (going-refused x g (c .forward) (eqb-false _ _ z)));
+}

@@ -13,7 +13,7 @@ abbrev pub steppedAt : List ℕ → List ℕ → ℕ → Step → Problem → St
 steppedAt shop order n x b = stepped (rulesOf shop) n (problemIn shop order b) x
 
 -- The answer and the record are what the step's definition gives at the record before: the atoms, and the goals that wait, by place;
--- refused, the whole record is as it was. What the array holds past its count is free.
+-- refused, the whole record is as it was. What the words behind those of the last goal hold is free.
 abbrev pub Forward : List ℕ → List ℕ → ℕ → Step → Problem → Refusal → Problem → Type 0
 Forward shop order n x before answer after =
     Steps.Is shop order (steppedAt shop order n x before) before (record { refusal = answer; problem = after })

@@ -1,8 +1,10 @@
--- A trace stepped through on the display, and the promise that it shows what the replay answers. Document 01, "How a derivation
--- runs" and "Questions".
-use Prim.Native.Nat.{ℕ, zero, suc}
+-- A trace stepped through on the display, and the promises that it shows what the replay answers and that it can be stepped through.
+-- Document 01, "How a derivation runs" and "Questions".
+use Prim.Native.Nat.{ℕ, zero, suc, _+_}
 use mathlib.Core.Path.{_≡_, refl}
+use mathlib.Core.Bool.{cond}
 use mathlib.Core.List.{List, [], _∷_}
+use lib.Dec.{eqb}
 use lib.ListN.{take}
 use Rattle.hgn.specs.Questions.{placed}
 use Rattle.hgn.specs.Run.{Step, moveOf, problemOf, deedOf, Outcome, stopped, prepend, ended}
@@ -13,6 +15,8 @@ use Rattle.hgn.specs.Replay.{rulesOf, Replayed, reported, replay}
 use Rattle.hgn.specs.Readings.{Reached}
 use Rattle.hgn.specs.Demands.{InputsPass}
 use Rattle.steps.specs.Steps.{problemIn}
+use Rattle.steps.specs.Taking.{Going}
+use Rattle.replay.specs.Running.{Prepared}
 use Rattle.reading.specs.Refusals.{refusalOf}
 use Rattle.reading.specs.declared.refusal.Refusal.{Refusal}
 use Rattle.steps.specs.declared.problem.Problem.{Problem}
@@ -23,6 +27,10 @@ pub record Call (shop sheet : List ℕ) (n : ℕ) (x : Step) (before : Problem) 
   pub answer : Refusal
   pub after : Problem
   pub forward : Forward shop sheet n x before answer after
+
+-- The number of the step after one that gave this answer: a step that is refused isn't counted.
+abbrev pub nextNumber : ℕ → ℕ → ℕ
+nextNumber n answer = cond (eqb answer 0) (n + 1) n
 
 -- A call for each step from step number `n` on, each at the record that the one before it left, up to the first that is refused.
 unfoldable pub Calls : List ℕ → List ℕ → ℕ → Problem → List Step → Type 0
@@ -65,3 +73,12 @@ abbrev pub DisplayShowsReplay : Type 0
 DisplayShowsReplay = (shop sheet trace room : List ℕ) (c : Replayed) → InputsPass shop sheet trace room → c ≡ replay shop sheet trace room
     → (b : Problem) → problemIn shop sheet b ≡ problemOf (order sheet) → (cs : Calls shop sheet 0 b (stepsOf trace))
     → ShowsReplay shop sheet trace room c b cs
+
+-- A trace can be stepped through. The order's first record stands for the order's problem, as `DisplayShowsReplay` asks, and has what a call
+-- asks of its record. So has the record that a call leaves: at the next number where the step was taken, at the same number where it was
+-- refused.
+pub record DisplayGoesOn : Type 0 where
+  pub begins : (shop sheet table : List ℕ) (b : Problem) → Prepared shop sheet table b
+      → (problemIn shop sheet b ≡ problemOf (order sheet)) × Going shop sheet 0 (b .atoms) (b .waiting)
+  pub goes-on : (shop sheet : List ℕ) (n : ℕ) (x : Step) (b : Problem) (c : Call shop sheet n x b) → Going shop sheet n (b .atoms) (b .waiting)
+      → Going shop sheet (nextNumber n (c .answer .number)) (c .after .atoms) (c .after .waiting)

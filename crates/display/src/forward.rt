@@ -1,15 +1,15 @@
 // The display's record, moved forward by one step where it is held. Document 01, "How a derivation runs": "a stepping display moves one
 // record of atoms and waiting goals forward where it is held ... A refused step gives its number and leaves the record unchanged."
-use network::waiting::Place;
 use reading::refusal::Refusal;
 use steps::problem::Problem;
 use steps::problem::Stepped;
 use steps::step;
+use steps::taking::Step;
 ghost use mathlib.Core.Path.{_≡_};
-ghost use Prim.Native.Nat.{_≤_, _<_};
+ghost use Prim.Native.Nat.{_<_};
 ghost use Rattle.spans.specs.Tables.{Indexed};
+ghost use Rattle.steps.specs.Taking.{Going};
 ghost use Rattle.display.specs.Forward.{Forward};
-ghost use Rattle.hgn.specs.Network.{mostWaiting};
 ghost use Rattle.network.specs.Entries.{orderOrigin};
 
 // The question that refuses the step, its number 0 when it is taken.
@@ -32,16 +32,14 @@ pub fn step_forward<'a>(
     shop: &'a [u16],
     order: &'a [u16],
     tables: &[u16],
-    number: u16,
-    mv: u16,
-    place: Place,
+    step: Step,
 ) -> Refusal
     requires { ⌜ Indexed (now shop) (now order) (now tables) ⌝ }
-    requires { ⌜ (now bench .waiting .count ≤ mostWaiting) × (number < orderOrigin) ⌝ }
-    ensures { λ r. ⌜ Forward (now (shop .entry)) (now (order .entry)) number (record { move = mv; place = place .0 }) (now (bench .entry)) r (now (bench .exit)) ⌝ }
+    requires { ⌜ Going (now shop) (now order) (step .number) (now bench .atoms) (now bench .waiting) × (step .number < orderOrigin) ⌝ }
+    ensures { λ r. ⌜ Forward (now (shop .entry)) (now (order .entry)) (step .number) (record { move = step .mv; place = step .place .0 }) (now (bench .entry)) r (now (bench .exit)) ⌝ }
 {
     let problem = *bench;
-    let stepped = step::step(shop, order, tables, problem, number, mv, place);
+    let stepped = step::step(shop, order, tables, problem, step);
     *bench = record_of(stepped);
     refusal_of(stepped)
 }
@@ -59,15 +57,13 @@ pub fn show_step<'a>(
     shop: &'a [u16],
     order: &'a [u16],
     tables: &[u16],
-    number: u16,
-    mv: u16,
-    place: Place,
+    step: Step,
 ) -> Stepped
     requires { ⌜ Indexed (now shop) (now order) (now tables) ⌝ }
-    requires { ⌜ (problem .waiting .count ≤ mostWaiting) × (number < orderOrigin) ⌝ }
-    ensures { λ r. ⌜ Forward (now (shop .entry)) (now (order .entry)) number (record { move = mv; place = place .0 }) problem (r .refusal) (r .problem) ⌝ }
+    requires { ⌜ Going (now shop) (now order) (step .number) (problem .atoms) (problem .waiting) × (step .number < orderOrigin) ⌝ }
+    ensures { λ r. ⌜ Forward (now (shop .entry)) (now (order .entry)) (step .number) (record { move = step .mv; place = step .place .0 }) problem (r .refusal) (r .problem) ⌝ }
 {
     let mut bench = problem;
-    let refusal = step_forward(&mut bench, shop, order, tables, number, mv, place);
+    let refusal = step_forward(&mut bench, shop, order, tables, step);
     made(refusal, bench)
 }

@@ -1,6 +1,11 @@
 -- Laws of the definitions in the shape that the code asks for.
-pub mod Places
-pub mod Goals
+pub mod Gaps
 pub mod Entered
-pub mod Filling
-pub mod Decomposing
+pub mod Afters
+pub mod Counts
+pub mod Pending
+pub mod Reaching
+pub mod Counted
+pub mod Words
+pub mod WaitingGoals
+pub mod Entering

@@ -1,11 +1,10 @@
 -- Waiting goals as the code keeps them: by their rows, their names and their parents' names. Document 01, "How a derivation runs".
-use Prim.Native.Nat.{ℕ, suc, _+_}
-use mathlib.Core.Path.{_≡_}
+use Prim.Native.Nat.{ℕ, suc}
 use mathlib.Core.Bool.{Bool, false, cond, _&&_}
-use mathlib.Core.List.{List, _++_, map}
+use mathlib.Core.List.{List, _++_}
 use mathlib.Core.Option.{none, some}
 use lib.Dec.{eqb}
-use lib.ListN.{take, drop, getD}
+use lib.ListN.{take, drop}
 use Rattle.hgn.specs.Lists.{below}
 use Rattle.hgn.specs.Rows as Rows
 use Rattle.hgn.specs.Tag as Tag
@@ -15,7 +14,6 @@ use Rattle.spans.specs.Index.{spanOf, spanRows}
 use Rattle.reading.specs.declared.position.Sheet.the-variants as Of
 use Rattle.network.specs.declared.waiting.Name.{Name}
 use Rattle.network.specs.declared.waiting.Entry.{Entry}
-use Rattle.network.specs.declared.waiting.Waiting.{Waiting}
 
 -- The origin that stands for the order.
 abbrev pub orderOrigin : ℕ
@@ -48,21 +46,6 @@ noEntry = record {
   last = false;
 }
 
--- The goals in the order of their places.
-abbrev pub entriesOf : Waiting → List Entry
-entriesOf w = take (w .count) (w .entries)
-
-abbrev pub listOf : List ℕ → List ℕ → Waiting → List Network.Waiting
-listOf shop order w = map (waitingOf shop order) (entriesOf w)
-
-abbrev pub entryAt : Waiting → ℕ → Entry
-entryAt w p = getD (entriesOf w) p noEntry
-
 -- The list without the goal at a place.
 abbrev pub without : List Entry → ℕ → List Entry
 without l p = take p l ++ drop (suc p) l
-
--- Room opened for `more` goals directly before place `p`: the goals before it and from it on stand on either side.
-pub record Opened (l : List Entry) (p more : ℕ) (r : List Entry) : Type 0 where
-  pub before : take p r ≡ take p l
-  pub behind : drop (p + more) r ≡ drop p l

@@ -1,4 +1,4 @@
--- The goals of a checked order, read along the table of its ends, and how they enter the empty list. Assumes nothing.
+-- The goals of a checked order, read along the table of its ends, as all that waits. Assumes nothing.
 use Prim.Native.Nat.{ℕ, _+_, _<_, _≤_}
 use native.Mathlib.Omega.{arith}
 use mathlib.Core.Path.{_≡_, refl, sym, ap, _∙_}
@@ -24,17 +24,15 @@ use Rattle.spans.specs.Index.{ends, span, spanRows, spanOf}
 use Rattle.scan.proofs.Lookup.{rows-at}
 use Rattle.spans.proofs.Spans.{by-test, ends-length, NodesFrom}
 use Rattle.spans.proofs.Indexed.{order-length, order-whole, order-nodes-here, order-nodes-later, order-until, order-columns, order-fits}
-use Rattle.network.specs.Entries.{orderOrigin, waitingOf, listOf, entriesOf}
+use Rattle.network.specs.Entries.{orderOrigin, waitingOf}
 use Rattle.spans.specs.Tables.{Bounds, Walk, nodeAt}
 use Rattle.network.specs.Entering.{entriesFrom}
 use Rattle.replay.specs.OrderTable.{OrderIndexed, firstRow}
-use Rattle.predecessors.specs.Goals.{countIn, listIn, countsIn, nodeEntries, Begun}
-use Rattle.predecessors.specs.declared.goals.Entering.{Entering}
-use Rattle.predecessors.proofs.WaitingGoals.{list-length, list-at, count-at}
-use Rattle.predecessors.proofs.Counted.{counted-first}
-use Rattle.replay.specs.Taking.{FirstGoals}
-use Rattle.network.specs.declared.waiting.Name.{Name}
-use Rattle.network.specs.declared.waiting.Waiting.{Waiting}
+use Rattle.network.specs.Goals.{listIn, countsIn, nodeEntries, Begun}
+use Rattle.network.specs.declared.goals.Entering.{Entering}
+use Rattle.network.proofs.WaitingGoals.{list-length, list-at, count-at}
+use Rattle.network.proofs.Counted.{counted-first}
+use Rattle.replay.specs.Running.{FirstGoals}
 use Rattle.network.proofs.Entered.{order-enters}
 use Rattle.spans.proofs.NodeParts.{walk-nodes}
 
@@ -104,16 +102,6 @@ module _ {shop order table : List ℕ} (ix : OrderIndexed shop order table) wher
       (λ t.
       let l = order-nodes-later shop order (ix .checked) some (rw (first-tag some) t) in
       rw (z, t, end-at 0 (omega (arith, long))) (walked (getD (ends 0 rows) 0 0) (l .1) (l .0))))
-
-  -- Entered into the empty list they are the definitions' first list.
-  pub goals-entered : (parent : Name) (first : ℕ) (a : GoalsAt shop order table first) (r : Waiting)
-      → entriesOf r ≡ entriesFrom Of.Order orderOrigin parent false n 0 (a .bs)
-      → listOf shop order r ≡ goalsOf (Order.order order)
-  unfolding goalsOf
-  goals-entered parent first a r e =
-      ap (map (waitingOf shop order)) e
-      ∙ order-enters shop order Of.Order n (a .bs) parent 0
-      ∙ ap (enter Network.order none 0) (a .nodes)
 
   -- All that waits, with their counts.
   pub goals-begun : (first : ℕ) (a : GoalsAt shop order table first) (network : Entering) (ws : List ℕ) → network .origin ≡ orderOrigin → network .method ≡ false

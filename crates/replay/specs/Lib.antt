@@ -2,4 +2,4 @@
 pub mod OrderTable
 pub mod Answers
 pub mod Demands
-pub mod Taking
+pub mod Running

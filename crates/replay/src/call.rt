@@ -4,7 +4,7 @@ use crate::first;
 use crate::plan;
 use crate::run;
 use formulas::state::State;
-use predecessors::goals::Goals;
+use network::goals::Goals;
 use reading::refusal::Refusal;
 use scan::rows::word;
 use sheets::check;

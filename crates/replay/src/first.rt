@@ -2,13 +2,10 @@
 // order's 12 rows, and the waiting list holds the order's goals in listed order.
 use formulas::state;
 use formulas::state::State;
-use network::enter::Network;
+use network::goals::Entering;
+use network::goals::Goals;
+use network::goals::begin;
 use network::waiting::Name;
-use network::waiting::Place;
-use network::waiting::Waiting;
-use predecessors::goals::Entering;
-use predecessors::goals::Goals;
-use predecessors::goals::begin;
 use reading::position::Sheet;
 use reading::tag;
 use scan::rows::Row;
@@ -26,15 +23,13 @@ ghost use lib.ListN.{length};
 ghost use Rattle.hgn.specs.Rows.{mostRows};
 ghost use Rattle.hgn.specs.Shop.{mostActions, mostMethods};
 ghost use Rattle.hgn.specs.Run.{startOf};
-ghost use Rattle.hgn.specs.Network.{mostWaiting, goalsOf};
 ghost use Rattle.hgn.specs.Order as OrderSheet;
 ghost use Rattle.hgn.specs.Questions.{passed};
-ghost use Rattle.network.specs.Entries.{listOf};
 ghost use Rattle.spans.specs.Tables.{Indexed};
 ghost use Rattle.spans.specs.declared.index.Span.{Span};
-ghost use Rattle.predecessors.specs.Goals.{goalsWords};
+ghost use Rattle.network.specs.Goals.{goalsWords};
 ghost use Rattle.replay.specs.OrderTable.{OrderIndexed, firstRow};
-ghost use Rattle.replay.specs.Taking.{FirstGoals};
+ghost use Rattle.replay.specs.Running.{FirstGoals, Prepared};
 
 // The row at which the order's first node begins, or its end. If row 0 is no node, it belongs to no part, and the table says where the
 // next part begins.
@@ -48,26 +43,6 @@ fn first_node(order: &[u16], tables: &[u16]) -> Row
         return Row(0);
     }
     Row(word(tables, 0))
-}
-
-// The order's goals, in listed order.
-pub fn goals<'a>(shop: &'a [u16], order: &'a [u16], tables: &[u16]) -> Waiting
-    requires { ⌜ OrderIndexed (now shop) (now order) (now tables) ⌝ }
-    ensures { λ r. ⌜ (listOf (now (shop .entry)) (now (order .entry)) r ≡ goalsOf (OrderSheet.order (now (order .entry)))) × (r .count ≤ mostWaiting) ⌝ }
-{
-    let network = Network {
-        sheet: Sheet::Order,
-        origin: Waiting::ORDER,
-        parent: Name {
-            origin: Waiting::ORDER,
-            number: 0,
-        },
-        method: false,
-    };
-    let first = first_node(order, tables);
-    let end = Row(word(order, Order::SIZES - 1));
-    let count = word(order, Order::SIZES - 2);
-    Waiting::empty().entered(tables, network, first, end, count, Place(0))
 }
 
 // The atoms true at the start.
@@ -86,20 +61,6 @@ pub fn start<'a>(shop: &'a [u16], order: &'a [u16]) -> [bool; Shop::MOST_ATOMS a
     let empty = State::empty();
     let none = empty.atoms;
     state::assigned(none, tags, values, tag::TRUE_AT_START, true)
-}
-
-// The first record.
-pub fn first<'a>(shop: &'a [u16], order: &'a [u16], tables: &[u16]) -> Problem
-    requires { ⌜ OrderIndexed (now shop) (now order) (now tables) ⌝ }
-    ensures { λ r. ⌜ r .atoms ≡ startOf (OrderSheet.order (now (order .entry))) ⌝ }
-    ensures { λ r. ⌜ (listOf (now (shop .entry)) (now (order .entry)) (r .waiting) ≡ goalsOf (OrderSheet.order (now (order .entry)))) × (r .waiting .count ≤ mostWaiting) ⌝ }
-{
-    let atoms = start(shop, order);
-    let waiting = goals(shop, order, tables);
-    Problem {
-        atoms: atoms,
-        waiting: waiting,
-    }
 }
 
 // The table of the order, for its goals.
@@ -122,20 +83,6 @@ fn index_shop<'a>(shop: &'a [u16], order: &'a [u16], tables: &mut [u16])
     index::fill(shop, rows, tables, operators);
 }
 
-// The first record, with the table filled: first the order's, for its goals, then the shop's.
-pub fn prepared<'a>(shop: &'a [u16], order: &'a [u16], tables: &mut [u16]) -> Problem
-    requires { ⌜ OrderSheet.checkOrder (now shop) (now order) ≡ passed ⌝ }
-    requires { ⌜ mostRows + suc (mostActions + mostMethods) ≤ length (now tables) ⌝ }
-    ensures { λ _. ⌜ Indexed (now (shop .entry)) (now (order .entry)) (now (tables .exit)) ⌝ }
-    ensures { λ r. ⌜ r .atoms ≡ startOf (OrderSheet.order (now (order .entry))) ⌝ }
-    ensures { λ r. ⌜ (listOf (now (shop .entry)) (now (order .entry)) (r .waiting) ≡ goalsOf (OrderSheet.order (now (order .entry)))) × (r .waiting .count ≤ mostWaiting) ⌝ }
-{
-    index_order(shop, order, tables);
-    let problem = first(shop, order, tables);
-    index_shop(shop, order, tables);
-    problem
-}
-
 // The order's goals, in listed order, are all that waits.
 fn write_goals<'a>(
     shop: &'a [u16],
@@ -149,9 +96,9 @@ fn write_goals<'a>(
     let first = first_node(order, tables);
     let sizes = OrderSizes::of(order);
     let network = Entering {
-        origin: Waiting::ORDER,
+        origin: Name::ORDER,
         parent: Name {
-            origin: Waiting::ORDER,
+            origin: Name::ORDER,
             number: 0,
         },
         method: false,
@@ -176,4 +123,19 @@ pub fn begun<'a>(
     index_order(shop, order, tables);
     write_goals(shop, order, tables, goals);
     index_shop(shop, order, tables);
+}
+
+// The first record, with the shop's table filled.
+pub fn prepared<'a>(shop: &'a [u16], order: &'a [u16], tables: &mut [u16]) -> Problem
+    requires { ⌜ OrderSheet.checkOrder (now shop) (now order) ≡ passed ⌝ }
+    requires { ⌜ mostRows + suc (mostActions + mostMethods) ≤ length (now tables) ⌝ }
+    ensures { λ r. ⌜ Prepared (now (shop .entry)) (now (order .entry)) (now (tables .exit)) r ⌝ }
+{
+    let mut goals = Goals::empty();
+    begun(shop, order, tables, &mut goals.words);
+    let atoms = start(shop, order);
+    Problem {
+        atoms: atoms,
+        waiting: goals.words,
+    }
 }

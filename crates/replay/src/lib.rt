@@ -5,4 +5,3 @@ pub mod call;
 pub mod first;
 pub mod plan;
 pub mod run;
-pub mod taking;

@@ -1,11 +1,9 @@
 // The run of a trace's steps. Document 01, "How a derivation runs".
 use crate::answer::Answer;
-use crate::taking;
-use crate::taking::Step;
 use formulas::state::State;
+use network::goals;
+use network::goals::Goals;
 use network::waiting::Place;
-use predecessors::goals;
-use predecessors::goals::Goals;
 use reading::refusal::Refusal;
 use scan::rows::word;
 use sheets::check::Trace;
@@ -13,6 +11,8 @@ use sheets::sizes::TraceSizes;
 use spans::operators;
 use steps::moves::Move;
 use steps::questions::Decision;
+use steps::taking;
+use steps::taking::Step;
 ghost use mathlib.Core.Path.{_≡_};
 ghost use mathlib.Core.List.{List};
 ghost use Prim.Native.Nat.{ℕ, _≤_, _+_, _*_};
@@ -22,9 +22,10 @@ ghost use Rattle.hgn.specs.Tag.{mostCost};
 ghost use Rattle.hgn.specs.Trace.{mostSteps, stepCount};
 ghost use Rattle.spans.specs.Tables.{Indexed};
 ghost use Rattle.steps.specs.Moves.{Known};
-ghost use Rattle.predecessors.specs.Goals.{countIn};
+ghost use Rattle.network.specs.Goals.{countIn};
 ghost use Rattle.replay.specs.Answers.{answerOf, runAnswer, endAnswer};
-ghost use Rattle.replay.specs.Taking.{problemWith, FirstGoals, TotalWith};
+ghost use Rattle.steps.specs.Taking.{problemWith};
+ghost use Rattle.replay.specs.Running.{FirstGoals, TotalWith};
 
 // How many actions were taken, and the sum of their costs.
 pub struct Totals {

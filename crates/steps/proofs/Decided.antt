@@ -24,23 +24,19 @@ use Rattle.reading.specs.declared.refusal.Refusal.{Refusal}
 use Rattle.reading.specs.declared.position.Sheet.the-variants as Of
 use Rattle.spans.specs.declared.index.Span.{Span}
 use Rattle.spans.specs.Index.{spanOf, spanRows}
-use Rattle.network.specs.Entries.{waitingOf, entriesOf, listOf}
-use Rattle.freeness.specs.Seeing.{Sees}
+use Rattle.network.specs.Entries.{waitingOf}
 use Rattle.spans.specs.Tables.{Indexed, Bounds, Walk, NodesCounted, MethodAt}
 use Rattle.spans.specs.declared.operators.Nodes.{Nodes}
 use Rattle.spans.specs.declared.operators.MethodRows.{MethodRows}
 use Rattle.steps.specs.Moves.{Known, knownOf, readOf, moveRead}
-use Rattle.steps.specs.Steps.{problemIn}
 use Rattle.steps.specs.Deciding.{Faces, Answers, OfAction, toldOf, SeenIn, Decides}
-use Rattle.freeness.specs.declared.free.Seen.{Seen}
+use Rattle.network.specs.declared.goals.Seen.{Seen}
 use Rattle.steps.specs.declared.moves.Move.{Move}
 use Rattle.steps.specs.declared.moves.Move.the-variants.{Release, Act, Use}
 use Rattle.steps.specs.declared.moves.Read.{Read}
 use Rattle.steps.specs.declared.moves.Read.the-variants.{Is, Unreadable}
-use Rattle.steps.specs.declared.problem.Problem as Code
 use Rattle.steps.specs.declared.questions.Decision.the-variants.{Refused, Takes}
 use Rattle.spans.proofs.Tables.{shop-passes}
-use Rattle.network.proofs.Goals.{entries-length, list-length, goal-is}
 use Rattle.spans.proofs.OperatorRows.{method-size}
 use Rattle.steps.proofs.Bodies.{read-by-counts, step-25, step-26, step-27, step-28, own-refuses, own-takes, own-room, use-30, use-31, use-32, use-passed}
 use Rattle.steps.proofs.Actions.{known-read}
@@ -175,15 +171,3 @@ module _ {shop order table : List ℕ} {m : ℕ} {rows : MethodRows} (a : Method
     pub method-crowded : u ≡ true → mostWaiting < count + nodes .count → refusalOf r ≡ (32 asks false) .refusal → Answers shop order s goal count (Run.use-method m) r
     method-crowded e h z n P p f =
         z ∙ sym (ap told (use-32 shop order s goal count n p P f m (asked-needs ∙ yes) (asked-goal ∙ e) (omega (arith, size))))
-
--- What was seen in the code's record.
-pub seen-in : (shop order : List ℕ) (b : Code.Problem) → length (b .waiting .entries) ≡ 64 → b .waiting .count ≤ 64 → (p : ℕ) (seen : Seen)
-    → Sees shop order (b .waiting) p seen → SeenIn shop order (b .atoms) (b .waiting .count) seen (problemIn shop order b) p
-seen-in shop order b full few p seen sees = record {
-  state = refl;
-  size = list-length shop order (b .waiting) full few;
-  goal = λ h. goal-is shop order (entriesOf (b .waiting)) p (omega (arith, entries-length (b .waiting) full few)) ∙ ap (waitingOf shop order) (sym (sees .goal));
-  free-is = λ h.
-      sees .free
-      ∙ ap (free (listOf shop order (b .waiting))) (sym (goal-is shop order (entriesOf (b .waiting)) p (omega (arith, entries-length (b .waiting) full few))));
-}

@@ -4,3 +4,4 @@ pub mod Bodies
 pub mod Actions
 pub mod Decided
 pub mod Taken
+pub mod TakenSteps

@@ -22,7 +22,7 @@ use Rattle.spans.specs.declared.index.Span.{Span}
 use Rattle.spans.specs.Index.{spanRows}
 use Rattle.network.specs.Entries.{waitingOf}
 use Rattle.steps.specs.Moves.{Known, knownOf}
-use Rattle.freeness.specs.declared.free.Seen.{Seen}
+use Rattle.network.specs.declared.goals.Seen.{Seen}
 use Rattle.steps.specs.declared.moves.Move.{Move}
 use Rattle.steps.specs.declared.moves.Move.the-variants.{Release, Act, Use}
 use Rattle.steps.specs.declared.questions.Decision.{Decision}

@@ -2,3 +2,4 @@
 pub mod Moves
 pub mod Steps
 pub mod Deciding
+pub mod Taking

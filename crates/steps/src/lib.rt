@@ -3,3 +3,4 @@ pub mod moves;
 pub mod problem;
 pub mod questions;
 pub mod step;
+pub mod taking;

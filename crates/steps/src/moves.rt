@@ -1,4 +1,5 @@
 // What a move's number reads as. Document 01, "How a derivation runs".
+use network::waiting::Place;
 ghost use mathlib.Core.Path.{_≡_};
 ghost use Rattle.steps.specs.Moves.{readOf, moveRead};
 
@@ -8,6 +9,12 @@ pub enum Move {
     Act(u16),
     // A method by its number, from 0.
     Use(u16),
+}
+
+// A move at the goal of a place.
+pub struct Choice {
+    pub mv: Move,
+    pub place: Place,
 }
 
 pub enum Read {

@@ -1,6 +1,6 @@
-// The record that a step moves forward: the atoms and the waiting goals. Document 01, "How a derivation runs".
+// The record that a step moves forward: the atoms, and the words of the waiting goals. Document 01, "How a derivation runs".
 use formulas::state;
-use network::waiting::Waiting;
+use network::goals::Goals;
 use reading::refusal::Refusal;
 use reading::tag;
 use sheets::check::Shop;
@@ -10,9 +10,7 @@ use spans::operators;
 ghost use mathlib.Core.Path.{_≡_};
 ghost use Prim.Native.Nat.{_≤_};
 ghost use Rattle.hgn.specs.Tag as Tag;
-ghost use Rattle.hgn.specs.Questions.{passed, told};
 ghost use Rattle.hgn.specs.Meaning.{literals};
-ghost use Rattle.reading.specs.Refusals.{refusalOf};
 ghost use Rattle.hgn.specs.State.{γ};
 ghost use Rattle.hgn.specs.Run.{actionAt};
 ghost use Rattle.hgn.specs.Shop.{domain, actionCount};
@@ -21,7 +19,7 @@ ghost use Rattle.spans.specs.Tables.{Indexed};
 
 pub struct Problem {
     pub atoms: [bool; Shop::MOST_ATOMS as usize],
-    pub waiting: Waiting,
+    pub waiting: [u16; Goals::WORDS],
 }
 
 // What a step comes to: no refusal and the next record; or the first question that fails and the record as it was.
@@ -31,19 +29,6 @@ pub struct Stepped {
 }
 
 impl Stepped {
-    pub fn taken(atoms: [bool; Shop::MOST_ATOMS as usize], waiting: Waiting) -> Stepped
-        ensures { λ r. ⌜ (refusalOf (r .refusal) ≡ told passed) × (r .problem ≡ record { atoms = atoms; waiting = waiting }) ⌝ }
-    {
-        let refusal = Refusal::none();
-        Stepped {
-            refusal: refusal,
-            problem: Problem {
-                atoms: atoms,
-                waiting: waiting,
-            },
-        }
-    }
-
     pub fn refused(refusal: Refusal, problem: Problem) -> Stepped
         ensures { λ r. ⌜ (r .refusal ≡ refusal) × (r .problem ≡ problem) ⌝ }
     {

@@ -2,26 +2,22 @@
 use crate::moves::Move;
 use crate::moves::Read;
 use formulas::parts;
-use freeness::free;
-use freeness::free::Seen;
+use network::goals::Goals;
+use network::goals::Seen;
 use network::waiting::Place;
-use network::waiting::Waiting;
 use reading::refusal::Refusal;
 use reading::tag;
 use scan::rows::word;
 use sheets::check::Shop;
 use spans::index::Span;
 use spans::operators;
-ghost use mathlib.Core.Path.{_≡_};
 ghost use Prim.Native.Nat.{_≤_, _<_};
 ghost use Rattle.hgn.specs.Run as Run;
 ghost use Rattle.hgn.specs.Run.{Problem};
 ghost use Rattle.hgn.specs.Shop.{actionCount, methodCount};
-ghost use Rattle.reading.specs.Refusals.{refusalOf};
-ghost use Rattle.network.specs.Entries.{listOf};
 ghost use Rattle.steps.specs.Moves.{Known, knownOf};
 ghost use Rattle.spans.specs.Tables.{Indexed};
-ghost use Rattle.steps.specs.Deciding.{OfAction, Answers, toldOf, SeenIn, Decides};
+ghost use Rattle.steps.specs.Deciding.{OfAction, Answers, SeenIn, Decides};
 ghost use Rattle.hgn.specs.Network.{mostWaiting};
 
 // The first question that fails, or the move that may be taken.
@@ -70,7 +66,7 @@ fn of_method<'a>(
         let nodes = operators::nodes_between(tables, rows.first, rows.end);
         let last = Span::of_shop(nodes.last, rows.end);
         if parts::helps(shop, order, last, tag::WANTED_TRUE, tag::WANTED_FALSE, goal) {
-            if count + nodes.count <= Waiting::MOST {
+            if count + nodes.count <= Goals::MOST {
                 return Refusal::none();
             }
             return Refusal::by(32);
@@ -142,18 +138,4 @@ pub fn decide<'a>(
         return Decision::Refused(Refusal::by(28));
     }
     Decision::Refused(Refusal::by(25))
-}
-
-// What is told of a refusal: 27 for 28 where no waiting goal is free.
-pub fn told<'a>(shop: &'a [u16], order: &'a [u16], waiting: Waiting, refusal: Refusal) -> Refusal
-    requires { ⌜ waiting .count ≤ mostWaiting ⌝ }
-    ensures { λ r. ⌜ refusalOf r ≡ toldOf (listOf (now (shop .entry)) (now (order .entry)) waiting) (refusalOf refusal) ⌝ }
-{
-    if refusal.number == 28 {
-        if free::any_free(shop, order, waiting) {
-            return refusal;
-        }
-        return Refusal::by(27);
-    }
-    refusal
 }

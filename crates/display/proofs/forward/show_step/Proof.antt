@@ -40,8 +40,8 @@ use denote.Exit.{yes}
 use Rattle.steps.specs.declared.problem.Problem.{Problem}
 use Rattle.steps.proofs.problem.Problem as P
 use Rattle.steps.proofs.problem.Problem.Laws as P′
-use Rattle.network.proofs.waiting.Place as L
-use Rattle.network.proofs.waiting.Place.Laws as L′
+use Rattle.steps.proofs.taking.Step as X
+use Rattle.steps.proofs.taking.Step.Laws as X′
 use Rattle.reading.specs.declared.refusal.Refusal.{Refusal}
 use Rattle.reading.proofs.refusal.Refusal as R
 use Rattle.reading.proofs.refusal.Refusal.Laws as R′
@@ -49,8 +49,8 @@ use Rattle.steps.specs.declared.problem.Stepped.{Stepped}
 use Rattle.steps.proofs.problem.Stepped as S
 use Rattle.steps.proofs.problem.Stepped.Laws as S′
 use Rattle.display.proofs.Lends.{lends, back}
-use Rattle.display.proofs.Beside.{Beside, Passed, spelled, told, machine, Own, Checked, Few, Moved, needs-both, again, typed-problem}
-use Rattle.display.proofs.Beside.{words-stay, number-stay, place-stay, words-go, number-goes, place-goes}
+use Rattle.display.proofs.Beside.{Beside, Passed, spelled, told, machine, Own, Checked, Ready, Moved, needs-both, again, typed-problem}
+use Rattle.display.proofs.Beside.{words-stay, step-stays, words-go, step-goes}
 use Rattle.display.proofs.forward.step_forward as forward
 use Rattle.display.proofs.forward.step_forward.Symbol as forward-def
 use Rattle.display.proofs.forward.step_forward.Symbol.{name as #display·forward·step-forward}
@@ -65,7 +65,7 @@ use Rattle.display.proofs.forward.show_step.Statement as stated
 use Rattle.display.proofs.forward.show_step.Code as code
 
 abbrev stayed : Stays (shown.ended .signature .params) (shown.ended .kept)
-stayed = (stay-none (λ _. P.the-row) yes, (words-stay 0 tt, (words-stay 0 tt, (words-stay 1 tt, (number-stay, (number-stay, (place-stay, tt)))))))
+stayed = (stay-none (λ _. P.the-row) yes, (words-stay 0 tt, (words-stay 0 tt, (words-stay 1 tt, (step-stays, tt)))))
 
 module _ {M : Type 1} (𝓤 : URA M) (H : Heap 𝓤) (A : Atoms 𝓤) (at-mem : Memory → SProp 𝓤) (run : Routine → Fun 𝓤) where
   -- the contracts that the proof cites
@@ -101,10 +101,10 @@ module _ {M : Type 1} (𝓤 : URA M) (H : Heap 𝓤) (A : Atoms 𝓤) (W : Given
   abbrev Both : ℕ → Item 𝓤
   Both ν = ‵ (flft (ν ∷ []) fullShare) ⊛ Tokens
 
-  goes-forward : (ν l : ℕ) (δ : GName) → Checked a → Few a h → ent 𝓤 (⋆ 𝓤 H A (Both ν ∷ ‵ (lent ν l δ) ∷ ‵ (Own κs a) ∷ [])) (StepForward 𝓤 H A at-mem run .pre (to-forward ν l δ))
+  goes-forward : (ν l : ℕ) (δ : GName) → Checked a → Ready a h → ent 𝓤 (⋆ 𝓤 H A (Both ν ∷ ‵ (lent ν l δ) ∷ ‵ (Own κs a) ∷ [])) (StepForward 𝓤 H A at-mem run .pre (to-forward ν l δ))
   goes-forward ν l δ ok few =
       qed W (Both ν ∷ ‵ (lent ν l δ) ∷ ‵ (Own κs a) ∷ []) ∵ move ! (1 ∷ 2 ∷ []) $ fjoin ! $ move ! (1 ∷ 0 ∷ []) $ join ! $ frame ! $
-      use0 W (raw (fact 𝓤 (Few a h))) (factI 𝓤 (Few a h) (emp 𝓤) few) $ use0 W (raw (fact 𝓤 (Checked a))) (factI 𝓤 (Checked a) (emp 𝓤) ok) $ done !
+      use0 W (raw (fact 𝓤 (Ready a h))) (factI 𝓤 (Ready a h) (emp 𝓤) few) $ use0 W (raw (fact 𝓤 (Checked a))) (factI 𝓤 (Checked a) (emp 𝓤) ok) $ done !
 
   abbrev Told : GName → Refusal → Problem → Item 𝓤
   Told δ k p = given (Moved a h k p) (‵ (fres δ (P.the-row .coded .code p)))
@@ -137,43 +137,41 @@ module _ {M : Type 1} (𝓤 : URA M) (H : Heap 𝓤) (A : Atoms 𝓤) (W : Given
   exits r u is e =
       qed W (‵ (S.the-row .own r (u ∷ [])) ∷ Tokens ∷ ‵ (Own κs a) ∷ []) ∵
       suffices ! _ (ends-at 𝓤 H A shown.ended stayed (shown.clauses 𝓤 H A at-mem run) W bound u r
-      (tt, (tt, (tt, (tt, (tt, (tt, (tt, tt))))))) (tt, (tt, (tt, (tt, (tt, (tt, (tt, tt)))))))) $ says ! e $
+      (tt, (tt, (tt, (tt, (tt, tt))))) (tt, (tt, (tt, (tt, (tt, tt)))))) $ says ! e $
       move ! (1 ∷ 2 ∷ []) $ frame ! $ owned ! P.the-row (Is P.the-row) (LL.makes P.the-type P′.the-plain 𝓤 H A) h _ is $ fjoin ! $ frame ! $ done !
 
   module _ (C : Calls 𝓤 H) (Λ : Loops 𝓤 H) (fm : FmC 𝓤 H (W .laws) C) (known-forward : Triple 𝓤 (C #display·forward·step-forward) (StepForward 𝓤 H A at-mem run))
       (known-made : Triple 𝓤 (C #display·forward·made) (Made 𝓤 H A at-mem run)) where
-    walk : Is P.the-row h (LL.vals P.the-type P′.the-laws h) → Are (Beside κs) (Ises (Beside κs)) a (machine a) → Checked a → Few a h
+    walk : Is P.the-row h (LL.vals P.the-type P′.the-laws h) → Are (Beside κs) (Ises (Beside κs)) a (machine a) → Checked a → Ready a h
         → ent 𝓤 (onEntry 𝓤 H A shown.signature κs qs (h, a) (bound .0 .4)) (WpFn 𝓤 H C Λ code.function args Post)
     walk is are ok few =
         qed W (Tokens ∷ ‵ (owns (P.the-row ∷ Beside κs) (h, a) (bound .0 .4)) ∷ []) ∵ move ! (1 ∷ []) $ fsplit ! $ drop ! $
         -- [what is passed beside; the tokens]
         enter ! C Λ code.function args _ $
         alloc1 ! (λ l₀. alloc1 ! (λ l₁. alloc1 ! (λ l₂. alloc1 ! (λ l₃. alloc1 ! (λ l₄. alloc1 ! (λ l₅. alloc1 ! (λ l₆.
-        alloc1 ! (λ l₇. alloc1 ! (λ l₈. alloc1 ! (λ l₉. alloc1 ! (λ l₁₀. alloc1 ! (λ l₁₁. alloc0 ! $ params1 ! $ pass1 ! (init ! 20 refl (typed-problem 𝓤 H A W h _ is)) $
-        pass1 ! (init ! 18 refl (tt, (tt, (record { fits = are .0 .0 .1 .0 }, tt)))) $ pass1 ! (init ! 16 refl (tt, (tt, (record { fits = are .1 .0 .0 .1 .0 }, tt)))) $
-        pass1 ! (init ! 14 refl (tt, (tt, (record { fits = are .1 .1 .0 .0 .1 .0 }, tt)))) $
-        pass1 ! (init ! 12 refl (tt, record { fits = are .1 .1 .1 .0 .1 })) $ pass1 ! (init ! 10 refl (tt, record { fits = are .1 .1 .1 .1 .0 .1 })) $
-        pass1 ! (init ! 8 refl (LL.lawful L.the-type L′.the-laws 𝓤 H A W .typed (a .1 .1 .1 .1 .1 .0) _ (are .1 .1 .1 .1 .1 .0) .0)) $ pass0 ! $
-        -- the local _8 and its address: [room for _11; …; _1; …; room for _0; …; what is passed beside; the tokens]
-        assigns ! (of-opd ! (load ! (from ! (stop !)) (look ! 20 refl))) (from ! (stop !)) (init ! 6 refl (typed-problem 𝓤 H A W h _ is)) $
+        alloc1 ! (λ l₇. alloc1 ! (λ l₈. alloc1 ! (λ l₉. alloc0 ! $ params1 ! $ pass1 ! (init ! 16 refl (typed-problem 𝓤 H A W h _ is)) $
+        pass1 ! (init ! 14 refl (tt, (tt, (record { fits = are .0 .0 .1 .0 }, tt)))) $ pass1 ! (init ! 12 refl (tt, (tt, (record { fits = are .1 .0 .0 .1 .0 }, tt)))) $
+        pass1 ! (init ! 10 refl (tt, (tt, (record { fits = are .1 .1 .0 .0 .1 .0 }, tt)))) $
+        pass1 ! (init ! 8 refl (LL.lawful X.the-type X′.the-laws 𝓤 H A W .typed (a .1 .1 .1 .0) _ (are .1 .1 .1 .0) .0)) $ pass0 ! $
+        -- the local _6 and its address: [room for _9; …; _1; …; room for _0; …; what is passed beside; the tokens]
+        assigns ! (of-opd ! (load ! (from ! (stop !)) (look ! 16 refl))) (from ! (stop !)) (init ! 6 refl (typed-problem 𝓤 H A W h _ is)) $
         assigns ! (addr ! (from ! (stop !))) (from ! (stop !)) (init ! 2 refl (tt, tt)) $
         -- the local is lent for a lifetime ν
         lft-new ! tt (λ ν. move ! (7 ∷ []) $
-        use1 W (later (some (λ (δ : GName). ‵ (lent ν l₈ δ) ⊛ ‵ (flent (ν ∷ []) (Body (mem P.the-row) l₈ 0 δ))))) (lends 𝓤 H A W ν l₈ h _ is) $ await ! tt $ pick ! (λ δ. split ! $
-        -- [the reference; the lender's part; ν's token; room for _11; …; room for _9; …; what frees _8; _7; …; _1; …; room for _0; …; what is passed beside; the tokens]
-        move ! (26 ∷ []) $ use1 W (‵ (Own κs a) ⊛ ‵ (Own κs a)) (again 𝓤 H A W κs a) $ split ! $ move ! (4 ∷ 28 ∷ 2 ∷ 0 ∷ []) $ join ! $
-        use3 W (raw (StepForward 𝓤 H A at-mem run .pre (to-forward ν l₈ δ))) (goes-forward ν l₈ δ ok few) $
-        calls-at ! fm (StepForward 𝓤 H A at-mem run) known-forward (to-forward ν l₈ δ)
-        (and-then ! (load ! (from ! (stop !)) (look ! 5 refl)) (and-then ! (load ! (from ! (stop !)) (look ! 20 refl)) (and-then ! (load ! (from ! (stop !)) (look ! 18 refl))
-        (and-then ! (load ! (from ! (stop !)) (look ! 16 refl)) (and-then ! (load ! (from ! (stop !)) (look ! 14 refl))
-        (and-then ! (load ! (from ! (stop !)) (look ! 12 refl)) (and-then ! (load ! (from ! (stop !)) (look ! 10 refl)) (no-more !)))))))) (λ w.
+        use1 W (later (some (λ (δ : GName). ‵ (lent ν l₆ δ) ⊛ ‵ (flent (ν ∷ []) (Body (mem P.the-row) l₆ 0 δ))))) (lends 𝓤 H A W ν l₆ h _ is) $ await ! tt $ pick ! (λ δ. split ! $
+        -- [the reference; the lender's part; ν's token; room for _9; …; room for _7; …; what frees _6; _5; …; _1; …; room for _0; …; what is passed beside; the tokens]
+        move ! (22 ∷ []) $ use1 W (‵ (Own κs a) ⊛ ‵ (Own κs a)) (again 𝓤 H A W κs a) $ split ! $ move ! (4 ∷ 24 ∷ 2 ∷ 0 ∷ []) $ join ! $
+        use3 W (raw (StepForward 𝓤 H A at-mem run .pre (to-forward ν l₆ δ))) (goes-forward ν l₆ δ ok few) $
+        calls-at ! fm (StepForward 𝓤 H A at-mem run) known-forward (to-forward ν l₆ δ)
+        (and-then ! (load ! (from ! (stop !)) (look ! 5 refl)) (and-then ! (load ! (from ! (stop !)) (look ! 16 refl)) (and-then ! (load ! (from ! (stop !)) (look ! 14 refl))
+        (and-then ! (load ! (from ! (stop !)) (look ! 12 refl)) (and-then ! (load ! (from ! (stop !)) (look ! 10 refl)) (no-more !)))))) (λ w.
         use1 W (later (some (λ (k : Refusal). (Both ν ⊛ ‵ (R.the-row .own k (w ∷ [])))
-        ⊛ raw (ensured 𝓤 H A forward.ended (forward.clauses 𝓤 H A at-mem run) (ν ∷ [], κs) (bench l₈ δ, a) tt k)))) (id⊢ 𝓤 _) $
-        await ! tt $ pick ! (λ k. split ! $ move ! (1 ∷ []) $ use1 W (some (Told δ k)) (forward-said ν l₈ δ k) $ pick ! (λ p. learn ! (λ e. move ! (1 ∷ []) $ split ! $ split ! $
-        -- [ν's token; the tokens; the result; res; what is passed beside; the lender's part; room for _11; …]: the lifetime is ended, and the local lies there again
-        lft-end ! tt $ move ! (0 ∷ 5 ∷ 3 ∷ []) $ use3 W (later (given (Is P.the-row p (LL.vals P.the-type P′.the-laws p)) (‵ (fat fullShare P′.mir l₈ 0 (LL.val P.the-type P′.the-laws p)))))
-        (back 𝓤 H A W ν l₈ δ p) $ await ! tt $ learn ! (λ isp. move ! (2 ∷ []) $ facts ! R.the-row (Is R.the-row) (shows 𝓤 H A R.the-row) k _ (λ isk.
-        -- [_8; the tokens; what is passed beside; room for _11; …; room for _9; …; what frees _8; _7; …; _1; …; room for _0; …]
+        ⊛ raw (ensured 𝓤 H A forward.ended (forward.clauses 𝓤 H A at-mem run) (ν ∷ [], κs) (bench l₆ δ, a) tt k)))) (id⊢ 𝓤 _) $
+        await ! tt $ pick ! (λ k. split ! $ move ! (1 ∷ []) $ use1 W (some (Told δ k)) (forward-said ν l₆ δ k) $ pick ! (λ p. learn ! (λ e. move ! (1 ∷ []) $ split ! $ split ! $
+        -- [ν's token; the tokens; the result; res; what is passed beside; the lender's part; room for _9; …]: the lifetime is ended, and the local lies there again
+        lft-end ! tt $ move ! (0 ∷ 5 ∷ 3 ∷ []) $ use3 W (later (given (Is P.the-row p (LL.vals P.the-type P′.the-laws p)) (‵ (fat fullShare P′.mir l₆ 0 (LL.val P.the-type P′.the-laws p)))))
+        (back 𝓤 H A W ν l₆ δ p) $ await ! tt $ learn ! (λ isp. move ! (2 ∷ []) $ facts ! R.the-row (Is R.the-row) (shows 𝓤 H A R.the-row) k _ (λ isk.
+        -- [_6; the tokens; what is passed beside; room for _9; …; room for _7; …; what frees _6; _5; …; _1; …; room for _0; …]
         land ! (from ! (stop !)) (init ! 7 refl (LL.lawful R.the-type R′.the-laws 𝓤 H A W .typed k _ isk .0)) $
         assigns ! (of-opd ! (load ! (from ! (stop !)) (look ! 0 refl))) (from ! (stop !)) (init ! 3 refl (typed-problem 𝓤 H A W p _ isp)) $
         -- `made`
@@ -183,14 +181,14 @@ module _ {M : Type 1} (𝓤 : URA M) (H : Heap 𝓤) (A : Atoms 𝓤) (W : Given
         use1 W (later (some (λ (r : Stepped). (‵ ftrue ⊛ ‵ (S.the-row .own r (u ∷ []))) ⊛ raw (ensured 𝓤 H A made.ended (made.clauses 𝓤 H A at-mem run) tt (k, (p, tt)) tt r)))) (id⊢ 𝓤 _) $
         await ! tt $ pick ! (λ r. split ! $ move ! (1 ∷ []) $ use1 W (raw (fact 𝓤 (Is-made k p r))) (made-said k p r) $ heard ! (Is-made k p r) (λ er. split ! $ drop ! $
         peeks ! S.the-row (Is S.the-row) (shows 𝓤 H A S.the-row) r _ (λ isr.
-        -- [the result; _8; the tokens; what is passed beside; _11; …; _9; …; what frees _8; _7; …; _1; …; room for _0; …]
-        land ! (from ! (stop !)) (init ! 25 refl (LL.lawful S.the-type S′.the-laws 𝓤 H A W .typed r _ isr .0)) $
-        returns ! (look ! 25 refl) $ forget ! 1 refl $ forget ! 4 refl $ forget ! 6 refl $ forget ! 8 refl $ forget ! 11 refl $ forget ! 13 refl $ forget ! 15 refl $
-        forget ! 17 refl $ forget ! 19 refl $ forget ! 21 refl $ forget ! 23 refl $ forget ! 25 refl $
-        move ! (25 ∷ 26 ∷ []) $ free1 ! $ move ! (23 ∷ 24 ∷ []) $ free1 ! $ move ! (21 ∷ 22 ∷ []) $ free1 ! $ move ! (19 ∷ 20 ∷ []) $ free1 ! $
+        -- [the result; _6; the tokens; what is passed beside; _9; …; _7; …; what frees _6; _5; …; _1; …; room for _0; …]
+        land ! (from ! (stop !)) (init ! 21 refl (LL.lawful S.the-type S′.the-laws 𝓤 H A W .typed r _ isr .0)) $
+        returns ! (look ! 21 refl) $ forget ! 1 refl $ forget ! 4 refl $ forget ! 6 refl $ forget ! 8 refl $ forget ! 11 refl $ forget ! 13 refl $ forget ! 15 refl $
+        forget ! 17 refl $ forget ! 19 refl $ forget ! 21 refl $
+        move ! (21 ∷ 22 ∷ []) $ free1 ! $ move ! (19 ∷ 20 ∷ []) $ free1 ! $
         move ! (17 ∷ 18 ∷ []) $ free1 ! $ move ! (15 ∷ 16 ∷ []) $ free1 ! $ move ! (13 ∷ 14 ∷ []) $ free1 ! $ move ! (11 ∷ 12 ∷ []) $ free1 ! $ move ! (1 ∷ 10 ∷ []) $ free1 ! $
         move ! (7 ∷ 8 ∷ []) $ free1 ! $ move ! (5 ∷ 6 ∷ []) $ free1 ! $ move ! (3 ∷ 4 ∷ []) $ free1 ! $ free0 ! $
-        by ! (exits r u is (subst (λ (y : Refusal). Moved a h y (r .problem)) (sym (er .0)) (subst (Moved a h k) (sym (er .1)) e)))))))))))))))))))))))))))
+        by ! (exits r u is (subst (λ (y : Refusal). Moved a h y (r .problem)) (sym (er .0)) (subst (Moved a h k) (sym (er .1)) e)))))))))))))))))))))))))
 
 module _ {M : Type 1} (𝓤 : URA M) (H : Heap 𝓤) (A : Atoms 𝓤) (W : Given 𝓤 H A) (at-mem : Memory → SProp 𝓤) (run : Routine → Fun 𝓤) where
   shown-walks : (C : Calls 𝓤 H) (Λ : Loops 𝓤 H) → FmC 𝓤 H (W .laws) C → Triple 𝓤 (C #display·forward·step-forward) (StepForward 𝓤 H A at-mem run)
@@ -198,13 +196,12 @@ module _ {M : Type 1} (𝓤 : URA M) (H : Heap 𝓤) (A : Atoms 𝓤) (W : Given
   shown-walks C Λ fm known-forward known-made =
       walked 𝓤 H A shown.ended stayed (shown.clauses 𝓤 H A at-mem run) (WpFn 𝓤 H C Λ code.function)
       (λ κs. (LL.vals P.the-type P′.the-laws, spelled κs)) (λ κs. (LL.tells P.the-type P′.the-laws, told κs))
-      (λ κs qs bounds a _ are. needs-both 𝓤 (Checked (a .1)) (Few (a .1) (a .0)) _ (walk 𝓤 H A W at-mem run κs qs (a .0) (a .1) C Λ fm known-forward known-made (are .0) (are .1)))
+      (λ κs qs bounds a _ are. needs-both 𝓤 (Checked (a .1)) (Ready (a .1) (a .0)) _ (walk 𝓤 H A W at-mem run κs qs (a .0) (a .1) C Λ fm known-forward known-made (are .0) (are .1)))
 
   goes : AllGo 𝓤 H A W 2 (shown.signature .params) (shown.ended .kept) stayed
   goes =
       let words = words-go 𝓤 H A W 2 in
-      let word = number-goes 𝓤 H A W 2 in
-      (goes-none 𝓤 H A W 2 (λ _. P.the-row) yes (λ κs x f. refl), (words 0 tt, (words 0 tt, (words 1 tt, (word, (word, (place-goes 𝓤 H A W 2, tt)))))))
+      (goes-none 𝓤 H A W 2 (λ _. P.the-row) yes (λ κs x f. refl), (words 0 tt, (words 0 tt, (words 1 tt, (step-goes 𝓤 H A W 2, tt)))))
 
 shown-meets : {M : Type 1} (𝓤 : URA M) (H : Heap 𝓤) (A : Atoms 𝓤) → Given 𝓤 H A → (at-mem : Memory → SProp 𝓤) (run : Routine → Fun 𝓤) (𝓣 : Tables 𝓤 H)
     → Triple 𝓤 (𝓣 .C #display·forward·step-forward) (StepForward 𝓤 H A at-mem run) → Triple 𝓤 (𝓣 .C #display·forward·made) (Made 𝓤 H A at-mem run)

@@ -48,15 +48,15 @@ use Rattle.steps.proofs.problem.Problem as P
 use Rattle.steps.proofs.problem.Problem.Laws as P′
 use Rattle.steps.proofs.problem.Stepped as S
 use Rattle.steps.proofs.problem.Stepped.Laws as S′
-use Rattle.network.proofs.waiting.Place as L
-use Rattle.network.proofs.waiting.Place.Laws as L′
+use Rattle.steps.proofs.taking.Step as X
+use Rattle.steps.proofs.taking.Step.Laws as X′
 use Rattle.steps.proofs.step.step as step
 use Rattle.steps.proofs.step.step.Symbol as step-def
 use Rattle.steps.proofs.step.step.Symbol.{name as #steps·step·step}
 use Rattle.steps.proofs.step.step.Met as step-thm
 use Rattle.display.specs.Forward.{steppedAt}
-use Rattle.display.proofs.Beside.{Beside, Passed, spelled, told, number, step-of, machine, Own, Checked, Few, Moved, needs-both, again, typed-problem}
-use Rattle.display.proofs.Beside.{words-stay, number-stay, place-stay, words-go, number-goes, place-goes}
+use Rattle.display.proofs.Beside.{Beside, Passed, spelled, told, number, step-of, machine, Own, Checked, Ready, Moved, needs-both, again, typed-problem}
+use Rattle.display.proofs.Beside.{words-stay, step-stays, words-go, step-goes}
 use Rattle.display.proofs.forward.record_of as record-of
 use Rattle.display.proofs.forward.record_of.Symbol as record-of-def
 use Rattle.display.proofs.forward.record_of.Symbol.{name as #display·forward·record-of}
@@ -73,7 +73,7 @@ use Rattle.display.proofs.forward.step_forward.Code as code
 abbrev stayed : Stays (forward.ended .signature .params) (forward.ended .kept)
 stayed = (
   stay-ref (0 ∷ []) tt (plain (λ _. P.the-row)),
-  (words-stay 1 tt, (words-stay 1 tt, (words-stay 2 tt, (number-stay, (number-stay, (place-stay, tt)))))),
+  (words-stay 1 tt, (words-stay 1 tt, (words-stay 2 tt, (step-stays, tt)))),
 )
 
 module _ {M : Type 1} (𝓤 : URA M) (H : Heap 𝓤) (A : Atoms 𝓤) (at-mem : Memory → SProp 𝓤) (run : Routine → Fun 𝓤) where
@@ -115,13 +115,13 @@ module _ {M : Type 1} (𝓤 : URA M) (H : Heap 𝓤) (A : Atoms 𝓤) (W : Given
         tt,
       )
 
-  goes-step : Checked a → Few a h → Is P.the-row h (LL.vals P.the-type P′.the-laws h) → ent 𝓤 (⋆ 𝓤 H A (Tokens ∷ ‵ (Own κs a) ∷ [])) (ToStep 𝓤 H A at-mem run .pre to-step)
+  goes-step : Checked a → Ready a h → Is P.the-row h (LL.vals P.the-type P′.the-laws h) → ent 𝓤 (⋆ 𝓤 H A (Tokens ∷ ‵ (Own κs a) ∷ [])) (ToStep 𝓤 H A at-mem run .pre to-step)
   goes-step ok few is =
       qed W (Tokens ∷ ‵ (Own κs a) ∷ []) ∵ move ! (1 ∷ []) $ fsplit ! $ move ! (1 ∷ []) $ fsplit ! $ move ! (1 ∷ []) $ fsplit ! $ move ! (1 ∷ []) $
       owned ! P.the-row (Is P.the-row) (LL.makes P.the-type P′.the-plain 𝓤 H A) h _ is $ fjoin ! $
-      -- [the record, the numbers and the place; the table; order; shop; the tokens]
+      -- [the record and the step; the table; order; shop; the tokens]
       move ! (1 ∷ 0 ∷ []) $ fjoin ! $ move ! (1 ∷ 0 ∷ []) $ fjoin ! $ move ! (1 ∷ 0 ∷ []) $ fjoin ! $ move ! (1 ∷ 0 ∷ []) $ join ! $ frame ! $
-      use0 W (raw (fact 𝓤 (Few a h))) (factI 𝓤 (Few a h) (emp 𝓤) few) $ use0 W (raw (fact 𝓤 (Checked a))) (factI 𝓤 (Checked a) (emp 𝓤) ok) $ done !
+      use0 W (raw (fact 𝓤 (Ready a h))) (factI 𝓤 (Ready a h) (emp 𝓤) few) $ use0 W (raw (fact 𝓤 (Checked a))) (factI 𝓤 (Checked a) (emp 𝓤) ok) $ done !
 
   abbrev Is-step : Code.Stepped → Type 0
   Is-step r = Steps.Is (a .0 .now) (a .1 .0 .now) (steppedAt (a .0 .now) (a .1 .0 .now) (number a) (step-of a) h) h r
@@ -165,12 +165,12 @@ module _ {M : Type 1} (𝓤 : URA M) (H : Heap 𝓤) (A : Atoms 𝓤) (W : Given
   exits k w p e =
       qed W (Left k w p) ∵
       suffices ! _ (ends-at 𝓤 H A forward.ended stayed (forward.clauses 𝓤 H A at-mem run) W bound w k
-      (p, (tt, (tt, (tt, (tt, (tt, (tt, tt))))))) (tt, (tt, (tt, (tt, (tt, (tt, (tt, tt)))))))) $ says ! e $
+      (p, (tt, (tt, (tt, (tt, tt))))) (tt, (tt, (tt, (tt, (tt, tt)))))) $ says ! e $
       feqI ! (List Val) (vptr b o ∷ []) (vptr b o ∷ []) refl $ fjoin3 ! $ move ! (0 ∷ 4 ∷ []) $ fjoin ! $ move ! (1 ∷ 3 ∷ []) $ join ! $ frame ! $ frame ! $ done !
 
   module _ (C : Calls 𝓤 H) (Λ : Loops 𝓤 H) (fm : FmC 𝓤 H (W .laws) C) (known-step : Triple 𝓤 (C #steps·step·step) (ToStep 𝓤 H A at-mem run))
       (known-record : Triple 𝓤 (C #display·forward·record-of) (RecordOf 𝓤 H A at-mem run)) (known-refusal : Triple 𝓤 (C #display·forward·refusal-of) (RefusalOf 𝓤 H A at-mem run)) where
-    walk : Are (Beside κs) (Ises (Beside κs)) a (machine a) → Checked a → Few a h
+    walk : Are (Beside κs) (Ises (Beside κs)) a (machine a) → Checked a → Ready a h
         → ent 𝓤 (onEntry 𝓤 H A forward.signature (κ, κs) (q, qs) (bound .0 .3) (bound .0 .4)) (WpFn 𝓤 H C Λ code.function args Post)
     walk are ok few =
         qed W ((‵ (flft κ q) ⊛ Tokens) ∷ ‵ (owns (MutRef (named 0) κ P.the-row ∷ Beside κs) (bound .0 .3) (bound .0 .4)) ∷ []) ∵
@@ -178,27 +178,25 @@ module _ {M : Type 1} (𝓤 : URA M) (H : Heap 𝓤) (A : Atoms 𝓤) (W : Given
         -- [obs; the borrow; its token; what is passed beside; the tokens]
         enter ! C Λ code.function args _ $
         alloc1 ! (λ l₀. alloc1 ! (λ l₁. alloc1 ! (λ l₂. alloc1 ! (λ l₃. alloc1 ! (λ l₄. alloc1 ! (λ l₅.
-        alloc1 ! (λ l₆. alloc1 ! (λ l₇. alloc1 ! (λ l₈. alloc1 ! (λ l₉. alloc1 ! (λ l₁₀. alloc0 ! $ params1 ! $ pass1 ! (init ! 18 refl (tt, tt)) $
-        pass1 ! (init ! 16 refl (tt, (tt, (record { fits = are .0 .0 .1 .0 }, tt)))) $ pass1 ! (init ! 14 refl (tt, (tt, (record { fits = are .1 .0 .0 .1 .0 }, tt)))) $
-        pass1 ! (init ! 12 refl (tt, (tt, (record { fits = are .1 .1 .0 .0 .1 .0 }, tt)))) $
-        pass1 ! (init ! 10 refl (tt, record { fits = are .1 .1 .1 .0 .1 })) $ pass1 ! (init ! 8 refl (tt, record { fits = are .1 .1 .1 .1 .0 .1 })) $
-        pass1 ! (init ! 6 refl (LL.lawful L.the-type L′.the-laws 𝓤 H A W .typed (a .1 .1 .1 .1 .1 .0) _ (are .1 .1 .1 .1 .1 .0) .0)) $ pass0 ! $
-        -- the borrow is opened, and the record read: [room for _10; …; _1; …; room for _0; …; obs; the borrow; its token; what is passed beside; the tokens]
-        move ! (22 ∷ 23 ∷ 24 ∷ []) $ opens ! tt P.the-row {h = h} b o (λ vs.
+        alloc1 ! (λ l₆. alloc1 ! (λ l₇. alloc1 ! (λ l₈. alloc0 ! $ params1 ! $ pass1 ! (init ! 14 refl (tt, tt)) $
+        pass1 ! (init ! 12 refl (tt, (tt, (record { fits = are .0 .0 .1 .0 }, tt)))) $ pass1 ! (init ! 10 refl (tt, (tt, (record { fits = are .1 .0 .0 .1 .0 }, tt)))) $
+        pass1 ! (init ! 8 refl (tt, (tt, (record { fits = are .1 .1 .0 .0 .1 .0 }, tt)))) $
+        pass1 ! (init ! 6 refl (LL.lawful X.the-type X′.the-laws 𝓤 H A W .typed (a .1 .1 .1 .0) _ (are .1 .1 .1 .0) .0)) $ pass0 ! $
+        -- the borrow is opened, and the record read: [room for _8; …; _1; …; room for _0; …; obs; the borrow; its token; what is passed beside; the tokens]
+        move ! (18 ∷ 19 ∷ 20 ∷ []) $ opens ! tt P.the-row {h = h} b o (λ vs.
         spelt ! P.the-row (Is P.the-row) (shows 𝓤 H A P.the-row) (LL.vals P.the-type P′.the-laws) (LL.tells P.the-type P′.the-laws) fullShare h vs b o $
         move ! (1 ∷ []) $ facts ! P.the-row (Is P.the-row) (shows 𝓤 H A P.the-row) h _ (λ is.
-        -- [the record's cell; the open borrow; obs; auth; room for _10; …; _1; …; room for _0; …; what is passed beside; the tokens]
-        assigns ! (of-opd ! (load ! (from ! (hop ! (look ! 22 refl) (stop !))) (look-raw ! 0 refl))) (from ! (stop !)) (init ! 8 refl (typed-problem 𝓤 H A W h _ is)) $
+        -- [the record's cell; the open borrow; obs; auth; room for _8; …; _1; …; room for _0; …; what is passed beside; the tokens]
+        assigns ! (of-opd ! (load ! (from ! (hop ! (look ! 18 refl) (stop !))) (look-raw ! 0 refl))) (from ! (stop !)) (init ! 8 refl (typed-problem 𝓤 H A W h _ is)) $
         -- `step`
-        move ! (26 ∷ []) $ use1 W (‵ (Own κs a) ⊛ ‵ (Own κs a)) (again 𝓤 H A W κs a) $ split ! $ move ! (28 ∷ 0 ∷ []) $ use2 W (raw (ToStep 𝓤 H A at-mem run .pre to-step)) (goes-step ok few is) $
+        move ! (22 ∷ []) $ use1 W (‵ (Own κs a) ⊛ ‵ (Own κs a)) (again 𝓤 H A W κs a) $ split ! $ move ! (24 ∷ 0 ∷ []) $ use2 W (raw (ToStep 𝓤 H A at-mem run .pre to-step)) (goes-step ok few is) $
         calls-at ! fm (ToStep 𝓤 H A at-mem run) known-step to-step
-        (and-then ! (load ! (from ! (stop !)) (look ! 22 refl)) (and-then ! (load ! (from ! (stop !)) (look ! 20 refl)) (and-then ! (load ! (from ! (stop !)) (look ! 18 refl))
-        (and-then ! (load ! (from ! (stop !)) (look ! 10 refl)) (and-then ! (load ! (from ! (stop !)) (look ! 16 refl))
-        (and-then ! (load ! (from ! (stop !)) (look ! 14 refl)) (and-then ! (load ! (from ! (stop !)) (look ! 12 refl)) (no-more !)))))))) (λ v.
+        (and-then ! (load ! (from ! (stop !)) (look ! 18 refl)) (and-then ! (load ! (from ! (stop !)) (look ! 16 refl)) (and-then ! (load ! (from ! (stop !)) (look ! 14 refl))
+        (and-then ! (load ! (from ! (stop !)) (look ! 10 refl)) (and-then ! (load ! (from ! (stop !)) (look ! 12 refl)) (no-more !)))))) (λ v.
         use1 W (later (some (λ (r : Code.Stepped). (Tokens ⊛ ‵ (S.the-row .own r (v ∷ []))) ⊛ raw (ensured 𝓤 H A step.ended (step.clauses 𝓤 H A at-mem run) κs (to-step .0 .3) tt r)))) (id⊢ 𝓤 _) $
         await ! tt $ pick ! (λ r. split ! $ move ! (1 ∷ []) $ use1 W (raw (fact 𝓤 (Is-step r))) (step-said r) $ heard ! (Is-step r) (λ e.
         split ! $ move ! (1 ∷ []) $ facts ! S.the-row (Is S.the-row) (shows 𝓤 H A S.the-row) r _ (λ isr.
-        -- [the tokens; what is passed beside; the cell; the open borrow; obs; auth; room for _10; …; room for _0; …]
+        -- [the tokens; what is passed beside; the cell; the open borrow; obs; auth; room for _8; …; room for _0; …]
         land ! (from ! (stop !)) (init ! 8 refl (typed-stepped r v isr)) $
         -- `record_of`, and the record stored
         use0 W (raw (RecordOf 𝓤 H A at-mem run .pre (to-record r v))) (goes-record r v isr) $
@@ -206,26 +204,25 @@ module _ {M : Type 1} (𝓤 : URA M) (H : Heap 𝓤) (A : Atoms 𝓤) (W : Given
         use1 W (later (some (λ (p : Problem). (‵ ftrue ⊛ ‵ (P.the-row .own p (u ∷ []))) ⊛ raw (ensured 𝓤 H A record-of.ended (record-of.clauses 𝓤 H A at-mem run) tt (r, tt) tt p)))) (id⊢ 𝓤 _) $
         await ! tt $ pick ! (λ p. split ! $ move ! (1 ∷ []) $ use1 W (raw (fact 𝓤 (p ≡ r .problem))) (record-said r p) $ heard ! (p ≡ r .problem) (λ ep. split ! $ drop ! $
         peeks ! P.the-row (Is P.the-row) (shows 𝓤 H A P.the-row) p _ (λ isp.
-        -- [what the record owns; the tokens; what is passed beside; the cell; the open borrow; obs; auth; room for _10; …; room for _0; …]
+        -- [what the record owns; the tokens; what is passed beside; the cell; the open borrow; obs; auth; room for _8; …; room for _0; …]
         land ! (from ! (stop !)) (init ! 7 refl (typed-problem 𝓤 H A W p u isp)) $
-        assigns ! (of-opd ! (load ! (from ! (stop !)) (look ! 7 refl))) (from ! (hop ! (look ! 25 refl) (stop !))) (store-raw ! 3 refl (typed-problem 𝓤 H A W p u isp)) $
+        assigns ! (of-opd ! (load ! (from ! (stop !)) (look ! 7 refl))) (from ! (hop ! (look ! 21 refl) (stop !))) (store-raw ! 3 refl (typed-problem 𝓤 H A W p u isp)) $
         -- `refusal_of`
         use0 W (raw (RefusalOf 𝓤 H A at-mem run .pre (to-refusal r v))) (goes-refusal r v isr) $
         calls-at ! fm (RefusalOf 𝓤 H A at-mem run) known-refusal (to-refusal r v) (and-then ! (load ! (from ! (stop !)) (look ! 10 refl)) (no-more !)) (λ w.
         use1 W (later (some (λ (k : Refusal). (‵ ftrue ⊛ ‵ (R.the-row .own k (w ∷ []))) ⊛ raw (ensured 𝓤 H A refusal-of.ended (refusal-of.clauses 𝓤 H A at-mem run) tt (r, tt) tt k)))) (id⊢ 𝓤 _) $
         await ! tt $ pick ! (λ k. split ! $ move ! (1 ∷ []) $ use1 W (raw (fact 𝓤 (k ≡ r .refusal))) (refusal-said r k) $ heard ! (k ≡ r .refusal) (λ ek. split ! $ drop ! $
         peeks ! R.the-row (Is R.the-row) (shows 𝓤 H A R.the-row) k _ (λ isk.
-        -- [the result; what the record owns; the tokens; what is passed beside; the cell; the open borrow; obs; auth; _10; …; room for _0; …]
-        land ! (from ! (stop !)) (init ! 28 refl (LL.lawful R.the-type R′.the-laws 𝓤 H A W .typed k _ isk .0)) $
+        -- [the result; what the record owns; the tokens; what is passed beside; the cell; the open borrow; obs; auth; _8; …; room for _0; …]
+        land ! (from ! (stop !)) (init ! 24 refl (LL.lawful R.the-type R′.the-laws 𝓤 H A W .typed k _ isk .0)) $
         -- the borrow is closed at the new record
         move ! (4 ∷ 1 ∷ 5 ∷ 6 ∷ 7 ∷ []) $ closes ! tt P.the-row p (u ∷ []) b o $
-        -- [obs; the borrow; its token; the result; the tokens; what is passed beside; _10; …; _0; …]
-        returns ! (look ! 26 refl) $ forget ! 6 refl $ forget ! 8 refl $ forget ! 10 refl $ forget ! 12 refl $ forget ! 14 refl $ forget ! 16 refl $
-        forget ! 18 refl $ forget ! 20 refl $ forget ! 22 refl $ forget ! 24 refl $ forget ! 26 refl $
-        move ! (26 ∷ 27 ∷ []) $ free1 ! $ move ! (24 ∷ 25 ∷ []) $ free1 ! $ move ! (22 ∷ 23 ∷ []) $ free1 ! $
+        -- [obs; the borrow; its token; the result; the tokens; what is passed beside; _8; …; _0; …]
+        returns ! (look ! 22 refl) $ forget ! 6 refl $ forget ! 8 refl $ forget ! 10 refl $ forget ! 12 refl $ forget ! 14 refl $ forget ! 16 refl $
+        forget ! 18 refl $ forget ! 20 refl $ forget ! 22 refl $ move ! (22 ∷ 23 ∷ []) $ free1 ! $
         move ! (20 ∷ 21 ∷ []) $ free1 ! $ move ! (18 ∷ 19 ∷ []) $ free1 ! $ move ! (16 ∷ 17 ∷ []) $ free1 ! $ move ! (14 ∷ 15 ∷ []) $ free1 ! $
         move ! (12 ∷ 13 ∷ []) $ free1 ! $ move ! (10 ∷ 11 ∷ []) $ free1 ! $ move ! (8 ∷ 9 ∷ []) $ free1 ! $ move ! (6 ∷ 7 ∷ []) $ free1 ! $ free0 ! $
-        by ! (exits k w p (moved e ek ep)))))))))))))))))))))))))))
+        by ! (exits k w p (moved e ek ep)))))))))))))))))))))))))
 
 module _ {M : Type 1} (𝓤 : URA M) (H : Heap 𝓤) (A : Atoms 𝓤) (W : Given 𝓤 H A) (at-mem : Memory → SProp 𝓤) (run : Routine → Fun 𝓤) where
   forward-walks : (C : Calls 𝓤 H) (Λ : Loops 𝓤 H) → FmC 𝓤 H (W .laws) C → Triple 𝓤 (C #steps·step·step) (ToStep 𝓤 H A at-mem run)
@@ -234,14 +231,13 @@ module _ {M : Type 1} (𝓤 : URA M) (H : Heap 𝓤) (A : Atoms 𝓤) (W : Given
   forward-walks C Λ fm known-step known-record known-refusal =
       walked 𝓤 H A forward.ended stayed (forward.clauses 𝓤 H A at-mem run) (WpFn 𝓤 H C Λ code.function)
       (λ κs. (ptr-vals, spelled (κs .1))) (λ κs. (mut-tells (named 0) (κs .0) P.the-row, told (κs .1)))
-      (λ κs qs bounds a _ are. needs-both 𝓤 (Checked (a .1)) (Few (a .1) (a .0 .now)) _
+      (λ κs qs bounds a _ are. needs-both 𝓤 (Checked (a .1)) (Ready (a .1) (a .0 .now)) _
       (walk 𝓤 H A W at-mem run (κs .0) (κs .1) (qs .0) (qs .1) (a .0 .ptr .0) (a .0 .ptr .1) (a .0 .name) (a .0 .now) (a .1) C Λ fm known-step known-record known-refusal (are .1)))
 
   goes : AllGo 𝓤 H A W 3 (forward.signature .params) (forward.ended .kept) stayed
   goes =
       let words = words-go 𝓤 H A W 3 in
-      let word = number-goes 𝓤 H A W 3 in
-      (goes-ref 𝓤 H A W 3 0 tt (plain (λ _. P.the-row)), (words 1 tt, (words 1 tt, (words 2 tt, (word, (word, (place-goes 𝓤 H A W 3, tt)))))))
+      (goes-ref 𝓤 H A W 3 0 tt (plain (λ _. P.the-row)), (words 1 tt, (words 1 tt, (words 2 tt, (step-goes 𝓤 H A W 3, tt)))))
 
 forward-meets : {M : Type 1} (𝓤 : URA M) (H : Heap 𝓤) (A : Atoms 𝓤) → Given 𝓤 H A → (at-mem : Memory → SProp 𝓤) (run : Routine → Fun 𝓤) (𝓣 : Tables 𝓤 H)
     → Triple 𝓤 (𝓣 .C #steps·step·step) (ToStep 𝓤 H A at-mem run) → Triple 𝓤 (𝓣 .C #display·forward·record-of) (RecordOf 𝓤 H A at-mem run)

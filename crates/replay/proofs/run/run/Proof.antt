@@ -15,12 +15,13 @@ use Rattle.hgn.specs.Replay.{rulesOf, refusal}
 use Rattle.steps.specs.declared.moves.Move.{Move}
 use Rattle.steps.specs.declared.questions.Decision.{Decision}
 use Rattle.steps.specs.declared.questions.Decision.the-variants.{Refused, Takes}
-use Rattle.predecessors.proofs.WaitingGoals.{list-length}
+use Rattle.network.proofs.WaitingGoals.{list-length}
 use Rattle.replay.specs.Answers.{runAnswer, endAnswer}
-use Rattle.replay.specs.Taking.{problemWith, Going, TakenBy, Took}
+use Rattle.steps.specs.Taking.{problemWith, Going, TakenBy, Took}
 use Rattle.replay.proofs.Running.{Running, running-start}
 use Rattle.replay.proofs.Totals.{run-stops, run-ended}
-use Rattle.replay.proofs.TakenSteps.{run-goes, going-next, going-first}
+use Rattle.steps.proofs.TakenSteps.{going-next}
+use Rattle.replay.proofs.TakenSteps.{run-goes, going-first}
 use Rattle.replay.proofs.run.run.Statement.{statement}
 use Rattle.replay.proofs.run.run.Tie as tie
 

@@ -1,2 +1,0 @@
--- What is seen at a place of the waiting list.
-pub mod Seeing
