@@ -24,7 +24,7 @@ use Rattle.steps.specs.declared.moves.Move.the-variants.{Release, Act, Use}
 use Rattle.network.specs.declared.waiting.Entry.{Entry}
 use Rattle.steps.proofs.Actions.{known-action}
 use Rattle.pruning.specs.Rules.{ready, idle, lowerToo, stateAfter}
-use Rattle.reasons.specs.Tests.{wanted, crowded}
+use Rattle.reasons.specs.Tests.{crowded}
 
 -- A release.
 module _ (shop : List ℕ) {m : Move} (e : m ≡ Release) where
@@ -32,10 +32,6 @@ module _ (shop : List ℕ) {m : Move} (e : m ≡ Release) where
       → r ≡ ready (domain shop) s (waitingOf shop order g) (knownOf m)
   unfolding ready waitingOf
   ready-release order s g p = rw e p
-
-  pub wanted-release : (g : Network.Waiting) → true ≡ wanted (rulesOf shop) g (knownOf m)
-  unfolding wanted
-  wanted-release g = rw e
 
   pub idle-release : (s : State) → false ≡ idle (domain shop) s (knownOf m)
   unfolding idle
@@ -55,10 +51,6 @@ module _ (shop : List ℕ) {m : Move} {k : ℕ} (e : m ≡ Use k) where
       → r ≡ allHold s (literals 3 4 (spanRows shop order rows)) → r ≡ ready (domain shop) s g (knownOf m)
   unfolding ready
   ready-method order s g rows n p = rw e (p ∙ ap (allHold s) n)
-
-  pub wanted-method : (g : Network.Waiting) → true ≡ wanted (rulesOf shop) g (knownOf m)
-  unfolding wanted
-  wanted-method g = rw e
 
   pub idle-method : (s : State) → false ≡ idle (domain shop) s (knownOf m)
   unfolding idle
@@ -97,11 +89,6 @@ module _ {shop order table : List ℕ} (ix : Indexed shop order table) {m : Move
     unfolding ready
     ready-action s g p = rw e (p ∙ ap (allHold s) needs-are)
 
-    pub wanted-action : {r : Bool} (g : Entry) → r ≡ relevant (literals 5 6 (spanRows shop order rows)) (nodeOf (spanRows shop order (g .rows)) .formula)
-        → r ≡ wanted (rulesOf shop) (waitingOf shop order g) (knownOf m)
-    unfolding wanted waitingOf
-    wanted-action g p = rw e (p ∙ ap (λ (l : List Literal). relevant l (nodeOf (spanRows shop order (g .rows)) .formula)) effects-are)
-
     pub idle-action : {r : Bool} (s : State) {ts vs : List ℕ} → ts ≡ tagsOf rows shop order → vs ≡ valuesOf rows shop order
         → r ≡ allHold s (literals 5 6 (zipWith row ts vs)) → r ≡ idle (domain shop) s (knownOf m)
     unfolding idle spanRows
@@ -114,9 +101,11 @@ module _ {shop order table : List ℕ} (ix : Indexed shop order table) {m : Move
     unfolding lowerToo
     lower-action w p q = rw e (q ∙ ap (λ (l : List Literal). any (λ g. relevant l (g .formula) && free w g) (take p w)) effects-are)
 
-    pub after-action : {r : State} (s : State) → r ≡ γ s (literals 5 6 (spanRows shop order rows)) → r ≡ stateAfter (domain shop) s (knownOf m)
-    unfolding stateAfter
-    after-action s p = rw e (p ∙ ap (γ s) effects-are)
+-- An action by its number.
+pub after-action : (shop : List ℕ) {m : Move} {k : ℕ} → m ≡ Act k → {r : State} (s : State) → r ≡ γ s (actionAt (domain shop) k .effects)
+    → r ≡ stateAfter (domain shop) s (knownOf m)
+unfolding stateAfter
+after-action shop e s p = rw e p
 
 -- The test of crowding, by the kind of the move.
 module _ (left count : ℕ) {m : Move} where

@@ -3,30 +3,24 @@ use Prim.Native.Nat.{ℕ, _+_, _<_, _≤_}
 use native.Mathlib.Omega.{arith}
 use native.Mathlib.Numerals.{add-one}
 use mathlib.Core.Path.{_≡_, refl, sym, ap, _∙_}
-use mathlib.Core.Bool.{Bool, true, false, cond, _&&_, _||_, Bool·beq}
-use mathlib.Core.List.{List, [], zipWith}
-use lib.Dec.{leb}
-use lib.ListN.{length, take, drop, getD, drop-of-length-le, List·getD-map}
+use mathlib.Core.Bool.{Bool, true, false, _&&_, _||_, Bool·beq, and-true, and-false}
+use mathlib.Core.List.{List}
+use lib.Dec.{eqb}
+use lib.ListN.{length, take, drop, getD, drop-of-length-le}
 use lib.Seq.{drop-cons, length-take-le, getD-take}
 use borrow.Author.Tests.{eq-eqb, ne-eqb, lt-ltb, le-ltb}
-use Rattle.hgn.specs.Lists.{any, all, parts}
-use Rattle.hgn.specs.Rows.{valuesOf}
+use Rattle.hgn.specs.Lists.{any, all}
 use Rattle.hgn.specs.Meaning.{nodeOf, Literal}
 use Rattle.hgn.specs.State.{State, formulaHolds, relevant}
 use Rattle.hgn.specs.Network as Network
 use Rattle.hgn.specs.Network.{free, goalAt, noGoal}
-use Rattle.hgn.specs.Run.{Problem}
-use Rattle.spans.specs.Index as Index
-use Rattle.spans.specs.Index.{columnPart, tagsOf, layoutOf}
-use Rattle.scan.specs.declared.rows.Layout.{Layout}
-use Rattle.reading.specs.declared.position.Sheet.the-variants as Of
-use Rattle.spans.proofs.Spans.{span-empty}
 use Rattle.reading.proofs.Laws.{told}
 use Rattle.spans.specs.Index.{spanRows}
-use Rattle.network.specs.Entries.{waitingOf, listOf, entriesOf, entryAt, noEntry}
+use Rattle.network.specs.Entries.{waitingOf}
 use Rattle.network.specs.declared.waiting.Entry.{Entry}
-use Rattle.network.specs.declared.waiting.Waiting.{Waiting}
-use Rattle.network.proofs.Goals.{list-length}
+use Rattle.network.specs.Goals.{countIn, entryIn, pendingIn, listIn}
+use Rattle.network.proofs.WaitingGoals.{list-length, list-at, free-at}
+use Rattle.steps.specs.Taking.{problemWith, Kept}
 use Rattle.pruning.specs.Rules.{tooFewLeft, sameState}
 
 -- A search along a list that has come to place `i`: it ends there, has found one, or goes on.
@@ -65,113 +59,91 @@ module _ {A : Type 0} (test : A → Bool) (l : List A) (i : ℕ) where
       all-on : test (getD l i d) ≡ true → all test l ≡ all test (drop (i + 1) l)
       all-on q = all-turn ∙ rw q
 
-module _ (shop order : List ℕ) where
-  empty-part : (words : List ℕ) (l : Layout) (column : ℕ) → columnPart words l column 0 0 ≡ []
-  unfolding columnPart
-  empty-part words l column = go (leb 0 0 && leb 0 (l .rows) && leb (l .sizes + (l .rows + l .rows)) (length words))
-    where
-      go : (b : Bool) → cond b (Index.span words (column + 0) (column + 0)) [] ≡ []
-      go true = span-empty words (column + 0) (column + 0) (omega arith)
-      go false = refl
+module _ (shop order ws : List ℕ) where
+  abbrev list : List Network.Waiting
+  list = listIn shop order ws
 
-  no-rows : spanRows shop order (noEntry .rows) ≡ []
-  unfolding spanRows tagsOf zipWith
-  no-rows = rw (empty-part order (layoutOf Of.Order order) (layoutOf Of.Order order .sizes))
+  abbrev count : ℕ
+  count = countIn ws
 
-  -- Past the last place there is no goal.
-  no-goal : waitingOf shop order noEntry ≡ noGoal
-  unfolding waitingOf nodeOf valuesOf parts
-  no-goal = rw no-rows
+  -- A search below place `p` for a goal that is free and to which these literals are relevant.
+  module _ (kept : Kept shop order ws) (ls : List Literal) (p i : ℕ) (inside : p ≤ count) where
+    abbrev test : Network.Waiting → Bool
+    test g = relevant ls (g .formula) && free list g
 
-  pub goal-at : (w : Waiting) (p : ℕ) → goalAt (listOf shop order w) p ≡ waitingOf shop order (entryAt w p)
-  goal-at w p = ap (getD (listOf shop order w) p) (sym no-goal) ∙ List·getD-map (waitingOf shop order) (entriesOf w) p noEntry
+    fits : p ≤ length list
+    fits = rw (list-length shop order ws) inside
 
-  module _ (w : Waiting) (full : length (w .entries) ≡ 64) (few : w .count ≤ 64) where
-    abbrev list : List Network.Waiting
-    list = listOf shop order w
+    module _ (known : any test (take p list) ≡ any test (drop i (take p list))) where
+      pub lower-none : p ≤ i → false ≡ any test (take p list)
+      lower-none h = any-none test list i p fits known h
 
-    counted : length list ≡ w .count
-    counted = list-length shop order w full few
+      module _ (h : i < p) {b : Bool} (f : b ≡ eqb (pendingIn ws i) 0) where
+        free-is : {v : Bool} → b ≡ v → free list (goalAt list i) ≡ v
+        free-is q = sym (free-at shop order ws (kept .within) (kept .counted) i (omega arith)) ∙ told f q
 
-    -- A search below place `p` for a goal that is free and to which these literals are relevant.
-    module _ (ls : List Literal) (p i : ℕ) (inside : p ≤ w .count) where
-      abbrev test : Network.Waiting → Bool
-      test g = relevant ls (g .formula) && free list g
+        pub lower-held : b ≡ false → any test (take p list) ≡ any test (drop (i + 1) (take p list))
+        lower-held q = any-on test list i p fits known noGoal h (rw (free-is q) (and-false (relevant ls (goalAt list i .formula))))
 
-      fits : p ≤ length list
-      fits = rw counted inside
-
-      module _ (known : any test (take p list) ≡ any test (drop i (take p list))) where
-        pub lower-none : p ≤ i → false ≡ any test (take p list)
-        lower-none h = any-none test list i p fits known h
-
-        module _ (h : i < p) {goal : Entry} (e : goal ≡ entryAt w i) {a : Bool}
-            (r : a ≡ relevant ls (nodeOf (spanRows shop order (goal .rows)) .formula)) where
-          relevant-at : {v : Bool} → a ≡ v → relevant ls (goalAt list i .formula) ≡ v
+        module _ (t : b ≡ true) {goal : Entry} (e : goal ≡ entryIn ws i) {a : Bool} (r : a ≡ relevant ls (nodeOf (spanRows shop order (goal .rows)) .formula)) where
+          relevant-at : {v : Bool} → a ≡ v → test (goalAt list i) ≡ v
           unfolding waitingOf
           relevant-at q =
-              ap (λ (g : Network.Waiting). relevant ls (g .formula)) (goal-at w i)
+              rw (free-is t) (and-true (relevant ls (goalAt list i .formula)))
+              ∙ ap (λ (g : Network.Waiting). relevant ls (g .formula)) (list-at shop order ws i (omega arith))
               ∙ ap (λ (x : Entry). relevant ls (nodeOf (spanRows shop order (x .rows)) .formula)) (sym e)
               ∙ told r q
 
+          pub lower-found : a ≡ true → true ≡ any test (take p list)
+          lower-found q = any-found test list i p fits known noGoal h (relevant-at q)
+
           pub lower-irrelevant : a ≡ false → any test (take p list) ≡ any test (drop (i + 1) (take p list))
-          lower-irrelevant q = any-on test list i p fits known noGoal h (rw (relevant-at q))
+          lower-irrelevant q = any-on test list i p fits known noGoal h (relevant-at q)
 
-          module _ (t : a ≡ true) {b : Bool} (f : b ≡ free list (waitingOf shop order (entryAt w i))) where
-            free-at : {v : Bool} → b ≡ v → test (goalAt list i) ≡ v
-            free-at q = rw (relevant-at t) (ap (free list) (goal-at w i) ∙ told f q)
+  module _ (s : State) where
+    abbrev holds : Network.Waiting → Bool
+    holds g = formulaHolds s (g .formula)
 
-            pub lower-found : b ≡ true → true ≡ any test (take p list)
-            lower-found q = any-found test list i p fits known noGoal h (free-at q)
+    -- Whether every goal holds, asked of the goals from place `i` on.
+    module _ (i : ℕ) (known : all holds list ≡ all holds (drop i list)) where
+      pub holds-end : count ≤ i → true ≡ all holds list
+      holds-end h = all-end holds list i known (rw (list-length shop order ws) h)
 
-            pub lower-held : b ≡ false → any test (take p list) ≡ any test (drop (i + 1) (take p list))
-            lower-held q = any-on test list i p fits known noGoal h (free-at q)
+      module _ (h : i < count) {goal : Entry} (e : goal ≡ entryIn ws i) {a : Bool} (r : a ≡ formulaHolds s (nodeOf (spanRows shop order (goal .rows)) .formula)) where
+        holds-at : {v : Bool} → a ≡ v → holds (goalAt list i) ≡ v
+        unfolding waitingOf
+        holds-at q =
+            ap (λ (g : Network.Waiting). formulaHolds s (g .formula)) (list-at shop order ws i h)
+            ∙ ap (λ (x : Entry). formulaHolds s (nodeOf (spanRows shop order (x .rows)) .formula)) (sym e)
+            ∙ told r q
 
-    module _ (s : State) where
-      abbrev holds : Network.Waiting → Bool
-      holds g = formulaHolds s (g .formula)
+        pub holds-not : a ≡ false → false ≡ all holds list
+        holds-not q = all-fails holds list i known noGoal (rw (list-length shop order ws) h) (holds-at q)
 
-      -- Whether every goal holds, asked of the goals from place `i` on.
-      module _ (i : ℕ) (known : all holds list ≡ all holds (drop i list)) where
-        pub holds-end : w .count ≤ i → true ≡ all holds list
-        holds-end h = all-end holds list i known (rw counted h)
+        pub holds-on : a ≡ true → all holds list ≡ all holds (drop (i + 1) list)
+        holds-on q = all-on holds list i known noGoal (rw (list-length shop order ws) h) (holds-at q)
 
-        module _ (h : i < w .count) {goal : Entry} (e : goal ≡ entryAt w i) {a : Bool}
-            (r : a ≡ formulaHolds s (nodeOf (spanRows shop order (goal .rows)) .formula)) where
-          holds-at : {v : Bool} → a ≡ v → holds (goalAt list i) ≡ v
-          unfolding waitingOf
-          holds-at q =
-              ap (λ (g : Network.Waiting). formulaHolds s (g .formula)) (goal-at w i)
-              ∙ ap (λ (x : Entry). formulaHolds s (nodeOf (spanRows shop order (x .rows)) .formula)) (sym e)
-              ∙ told r q
+    -- With so many steps left, by the number that the words say.
+    module _ (left : ℕ) {number : ℕ} (is : number ≡ count) where
+      size : length list ≡ number
+      size = list-length shop order ws ∙ sym is
 
-          pub holds-not : a ≡ false → false ≡ all holds list
-          holds-not q = all-fails holds list i known noGoal (rw counted h) (holds-at q)
+      pub few-below : left < number → true ≡ tooFewLeft left (problemWith shop order s ws)
+      unfolding tooFewLeft
+      few-below h = rw (size, lt-ltb left number h)
 
-          pub holds-on : a ≡ true → all holds list ≡ all holds (drop (i + 1) list)
-          holds-on q = all-on holds list i known noGoal (rw counted h) (holds-at q)
+      pub few-above : number ≤ left → (left ≡ number → ⊥) → false ≡ tooFewLeft left (problemWith shop order s ws)
+      unfolding tooFewLeft
+      few-above h n = rw (size, le-ltb left number h, ne-eqb left number n)
 
-      -- With so many steps left.
-      module _ (left : ℕ) where
-        abbrev here : Problem
-        here = record { state = s; waiting = list }
-
-        pub few-below : left < w .count → true ≡ tooFewLeft left here
+      module _ (e : left ≡ number) {a : Bool} (r : a ≡ all holds list) where
+        pub few-held : a ≡ true → false ≡ tooFewLeft left (problemWith shop order s ws)
         unfolding tooFewLeft
-        few-below h = rw (counted, lt-ltb left (w .count) h)
+        few-held q = rw (size, le-ltb left number (omega arith), eq-eqb left number e, told r q)
 
-        pub few-above : w .count ≤ left → (left ≡ w .count → ⊥) → false ≡ tooFewLeft left here
+        pub few-open : a ≡ false → true ≡ tooFewLeft left (problemWith shop order s ws)
         unfolding tooFewLeft
-        few-above h n = rw (counted, le-ltb left (w .count) h, ne-eqb left (w .count) n)
-
-        module _ (e : left ≡ w .count) {a : Bool} (r : a ≡ all holds list) where
-          pub few-held : a ≡ true → false ≡ tooFewLeft left here
-          unfolding tooFewLeft
-          few-held q = rw (counted, le-ltb left (w .count) (omega arith), eq-eqb left (w .count) e, told r q)
-
-          pub few-open : a ≡ false → true ≡ tooFewLeft left here
-          unfolding tooFewLeft
-          few-open q = rw (counted, le-ltb left (w .count) (omega arith), eq-eqb left (w .count) e, told r q)
+        few-open q = rw (size, le-ltb left number (omega arith), eq-eqb left number e, told r q)
 
 -- Two states compared from atom `i` on.
 module _ (a b : State) (i : ℕ) (known : sameState a b ≡ sameState (drop i a) (drop i b)) where

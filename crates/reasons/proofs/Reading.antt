@@ -5,20 +5,21 @@ use mathlib.Core.Path.{_≡_, refl, subst}
 use mathlib.Core.Bool.{Bool, true, false, cond, _&&_, _||_}
 use mathlib.Core.List.{List}
 use lib.Dec.{eqb, ltb}
-use borrow.Author.Tests.{eq-eqb, ne-eqb, lt-ltb, le-ltb}
+use borrow.Author.Tests.{eq-eqb, ne-eqb, lt-ltb, le-ltb, ltb-true, eqb-true}
 use Rattle.hgn.specs.Run as Run
 use Rattle.hgn.specs.Run.{moveOf}
 use Rattle.hgn.specs.Shop.{domain, actionCount, methodCount}
-use Rattle.hgn.specs.Trace.{step}
+use Rattle.hgn.proofs.Tests.{false-not-true}
 use Rattle.hgn.proofs.Moves.{reads-action, reads-method}
 use Rattle.hgn.proofs.Checked.{shop-actions, shop-methods, shop-counts}
 use Rattle.steps.specs.Moves.{Known, knownOf}
 use Rattle.spans.specs.Tables.{Indexed}
 use Rattle.steps.specs.declared.moves.Move.{Move}
+use Rattle.steps.specs.declared.moves.Choice.{Choice}
 use Rattle.steps.specs.declared.moves.Move.the-variants.{Release, Act, Use}
 use Rattle.spans.proofs.Tables.{shop-passes}
 use Rattle.pruning.specs.Rules.{isAction, goesFirst}
-use Rattle.reasons.specs.Tests.{moveNumber, actionNumber, before}
+use Rattle.reasons.specs.Tests.{moveNumber, actionNumber, stepOf, before}
 
 and-no : (b : Bool) → false ≡ (b && false)
 and-no true = refl
@@ -45,19 +46,35 @@ by-tests false true p = p
 by-tests false false p = refl
 
 -- `before` test by test, as the code asks.
-module _ (y : Move) (q : ℕ) (x : Move) (p : ℕ) where
-  pub before-below : p < q → true ≡ before y q x p
+module _ (y x : Choice) where
+  abbrev q : ℕ
+  q = y .place .0
+
+  abbrev p : ℕ
+  p = x .place .0
+
+  pub before-below : p < q → true ≡ before y x
   before-below h = rw (lt-ltb p q h)
 
-  pub before-above : q ≤ p → (p ≡ q → ⊥) → false ≡ before y q x p
+  pub before-above : q ≤ p → (p ≡ q → ⊥) → false ≡ before y x
   before-above h n = rw (le-ltb p q h, ne-eqb p q n)
 
-  module _ (e : p ≡ q) {a : ℕ} (r : a ≡ actionNumber x) where
-    pub before-other : a ≤ 0 → false ≡ before y q x p
-    before-other h = rw (le-ltb p q (omega arith), eq-eqb p q e, le-ltb 0 (actionNumber x) (omega arith))
+  module _ (e : p ≡ q) {a : ℕ} (r : a ≡ actionNumber (x .mv)) where
+    pub before-other : a ≤ 0 → false ≡ before y x
+    before-other h = rw (le-ltb p q (omega arith), eq-eqb p q e, le-ltb 0 (actionNumber (x .mv)) (omega arith))
 
-    pub before-action : 0 < a → {b : ℕ} → b ≡ actionNumber y → ltb a b ≡ before y q x p
-    before-action h t = rw (r, t, le-ltb p q (omega arith), eq-eqb p q e, lt-ltb 0 (actionNumber x) (omega arith))
+    pub before-action : 0 < a → {b : ℕ} → b ≡ actionNumber (y .mv) → ltb a b ≡ before y x
+    before-action h t = rw (r, t, le-ltb p q (omega arith), eq-eqb p q e, lt-ltb 0 (actionNumber (x .mv)) (omega arith))
+
+  -- A step that would go before the last one stands no higher.
+  pub before-inside : before y x ≡ true → p ≤ q
+  before-inside h = go (ltb p q) (eqb p q) refl refl h
+    where
+      go : (a b : Bool) → ltb p q ≡ a → eqb p q ≡ b
+          → cond a true (cond b (cond (ltb 0 (actionNumber (x .mv))) (ltb (actionNumber (x .mv)) (actionNumber (y .mv))) false) false) ≡ true → p ≤ q
+      go true b e f h = omega (arith, ltb-true p q e)
+      go false true e f h = omega (arith, eqb-true p q f)
+      go false false e f h = absurd (false-not-true _ refl h)
 
 module _ {shop order table : List ℕ} (ix : Indexed shop order table) where
   abbrev Moves : Move → Type 0
@@ -79,9 +96,8 @@ module _ {shop order table : List ℕ} (ix : Indexed shop order table) where
   number-fits (Act k) h = omega (arith, shop-counts shop (shop-passes ix) .0, shop-actions shop (shop-passes ix))
   number-fits (Use k) h = omega (arith, shop-counts shop (shop-passes ix) .1, shop-methods shop (shop-passes ix))
 
-  pub before-is : (y : Move) (q : ℕ) (x : Move) (p : ℕ) → Moves y → Moves x
-      → before y q x p ≡ goesFirst (domain shop) (step (moveNumber y) q) (step (moveNumber x) p)
+  pub before-is : (y x : Choice) → Moves (y .mv) → Moves (x .mv) → before y x ≡ goesFirst (domain shop) (stepOf y) (stepOf x)
   unfolding goesFirst
-  before-is y q x p h k =
-      rw (number-read x k, number-read y h)
-      (by-tests (ltb p q) (eqb p q) (lower-first (actionCount shop) (methodCount shop) x y k h))
+  before-is y x h k =
+      rw (number-read (x .mv) k, number-read (y .mv) h)
+      (by-tests (ltb (x .place .0) (y .place .0)) (eqb (x .place .0) (y .place .0)) (lower-first (actionCount shop) (methodCount shop) (x .mv) (y .mv) k h))

@@ -1,29 +1,30 @@
 -- Two steps taken in the other order: whether they leave the same state, and whether they could be. Assumes nothing.
-use Prim.Native.Nat.{ℕ}
+use Prim.Native.Nat.{ℕ, _<_}
 use native.Mathlib.Omega.{arith}
 use mathlib.Core.Path.{_≡_, refl, sym, ap, ap₂, _∙_}
 use mathlib.Core.Bool.{Bool, true, false}
 use mathlib.Core.List.{List}
+use lib.Dec.{eqb}
 use Rattle.hgn.specs.Meaning.{Domain}
 use Rattle.hgn.specs.State.{State}
 use Rattle.hgn.specs.Network as Network
-use Rattle.hgn.specs.Network.{free}
+use Rattle.hgn.specs.Network.{free, goalAt}
 use Rattle.hgn.specs.Run as Run
 use Rattle.hgn.specs.Shop.{domain, actionCount, methodCount}
-use Rattle.hgn.specs.Trace.{step}
 use Rattle.reading.proofs.Laws.{told}
-use Rattle.network.specs.Entries.{waitingOf, listOf, entryAt}
+use Rattle.network.specs.Entries.{waitingOf}
 use Rattle.steps.specs.Moves.{Known, knownOf}
-use Rattle.steps.specs.Steps.{problemIn}
+use Rattle.steps.specs.Taking.{problemWith, Kept}
 use Rattle.spans.specs.Tables.{Indexed}
 use Rattle.steps.specs.declared.moves.Move.{Move}
 use Rattle.steps.specs.declared.moves.Move.the-variants.{Release, Act, Use}
+use Rattle.steps.specs.declared.moves.Choice.{Choice}
 use Rattle.network.specs.declared.waiting.Entry.{Entry}
-use Rattle.steps.specs.declared.problem.Problem.{Problem}
+use Rattle.network.specs.Goals.{countIn, entryIn, pendingIn, listIn}
+use Rattle.network.proofs.WaitingGoals.{list-at, free-at}
 use Rattle.pruning.specs.Rules.{ready, stateAfter, sameState, commute, couldGoFirst}
-use Rattle.reasons.specs.Tests.{moveNumber, actionNumber, before, swapReady}
-use Rattle.reasons.proofs.Reading.{number-read, before-is}
-use Rattle.reasons.proofs.Lower.{goal-at}
+use Rattle.reasons.specs.Tests.{actionNumber, stepOf, before, swapReady}
+use Rattle.reasons.proofs.Reading.{number-read, before-inside, before-is}
 
 module _ (shop : List ℕ) (s : State) where
   abbrev Moves : Move → Type 0
@@ -79,32 +80,43 @@ module _ (d : Domain) (s : State) where
       pub swap-asked : b ≡ true → {c : Bool} → c ≡ commute d s y x → c ≡ swapReady d s h y g x
       swap-asked q e = rw (told p t, then-ready q) e
 
-module _ {shop order table : List ℕ} (ix : Indexed shop order table) (b : Problem) (y : Move) (q : ℕ) (x : Move) (p : ℕ)
-    (h : Known (actionCount shop) (methodCount shop) y) (k : Known (actionCount shop) (methodCount shop) x) {a : Bool} (f : a ≡ before y q x p) where
+-- Whether a move is ready at the goal that a place has.
+pub ready-at : (shop order : List ℕ) (d : Domain) (s : State) (x : Run.Move) {goal here : Entry} → goal ≡ here → {r : Bool}
+    → r ≡ ready d s (waitingOf shop order goal) x → r ≡ ready d s (waitingOf shop order here) x
+ready-at shop order d s x e p = p ∙ ap (λ (g : Entry). ready d s (waitingOf shop order g) x) e
+
+module _ {shop order table : List ℕ} (ix : Indexed shop order table) (s : State) {ws : List ℕ} (k : Kept shop order ws) (y x : Choice) (inside : y .place .0 < countIn ws)
+    (ky : Known (actionCount shop) (methodCount shop) (y .mv)) (kx : Known (actionCount shop) (methodCount shop) (x .mv)) {a : Bool} (f : a ≡ before y x) where
   abbrev Could : Bool → Type 0
-  Could r = r ≡ couldGoFirst (domain shop) (problemIn shop order b) (step (moveNumber y) q) (step (moveNumber x) p)
+  Could r = r ≡ couldGoFirst (domain shop) (problemWith shop order s ws) (stepOf y) (stepOf x)
 
   pub could-not-first : a ≡ false → Could false
   unfolding couldGoFirst
-  could-not-first e = rw (sym (before-is ix y q x p h k) ∙ told f e)
+  could-not-first e = rw (sym (before-is ix y x ky kx) ∙ told f e)
 
-  module _ (t : a ≡ true) {c : Bool} (g : c ≡ free (listOf shop order (b .waiting)) (waitingOf shop order (entryAt (b .waiting) p))) where
-    pub could-not-free : c ≡ false → Could false
-    unfolding couldGoFirst
-    could-not-free e = rw (sym (before-is ix y q x p h k) ∙ told f t, goal-at shop order (b .waiting) p, told g e)
+  module _ (t : a ≡ true) where
+    pub below : x .place .0 < countIn ws
+    below = omega (arith, before-inside y x (told f t))
 
-    pub could-asked : c ≡ true → {last here : Entry} → last ≡ entryAt (b .waiting) q → here ≡ entryAt (b .waiting) p → {r : Bool}
-        → r ≡ swapReady (domain shop) (b .atoms) (waitingOf shop order last) (knownOf y) (waitingOf shop order here) (knownOf x) → Could r
-    unfolding couldGoFirst
-    could-asked e l m o =
-        o
-        ∙ rw (
-          sym (before-is ix y q x p h k) ∙ told f t,
-          goal-at shop order (b .waiting) p,
-          goal-at shop order (b .waiting) q,
-          told g e,
-          number-read ix y h,
-          number-read ix x k,
-          l,
-          m,
-        )
+    module _ {c : Bool} (g : c ≡ eqb (pendingIn ws (x .place .0)) 0) where
+      free-is : {v : Bool} → c ≡ v → free (listIn shop order ws) (goalAt (listIn shop order ws) (x .place .0)) ≡ v
+      free-is e = sym (free-at shop order ws (k .within) (k .counted) (x .place .0) below) ∙ told g e
+
+      pub could-not-free : c ≡ false → Could false
+      unfolding couldGoFirst
+      could-not-free e = rw (sym (before-is ix y x ky kx) ∙ told f t, free-is e)
+
+      pub could-asked : c ≡ true → {r : Bool}
+          → r ≡ swapReady (domain shop) s (waitingOf shop order (entryIn ws (y .place .0))) (knownOf (y .mv)) (waitingOf shop order (entryIn ws (x .place .0))) (knownOf (x .mv))
+          → Could r
+      unfolding couldGoFirst
+      could-asked e o =
+          o
+          ∙ rw (
+            sym (before-is ix y x ky kx) ∙ told f t,
+            free-is e,
+            list-at shop order ws (x .place .0) below,
+            list-at shop order ws (y .place .0) inside,
+            number-read ix (y .mv) ky,
+            number-read ix (x .mv) kx,
+          )

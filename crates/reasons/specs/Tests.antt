@@ -6,8 +6,10 @@ use Rattle.hgn.specs.Meaning.{Domain}
 use Rattle.hgn.specs.State.{State}
 use Rattle.hgn.specs.Network.{Waiting}
 use Rattle.hgn.specs.Run as Run
-use Rattle.hgn.specs.Run.{firstMethod, actionAt, Rules}
+use Rattle.hgn.specs.Run.{Step, firstMethod}
+use Rattle.hgn.specs.Trace.{step}
 use Rattle.steps.specs.declared.moves.Move.{Move}
+use Rattle.steps.specs.declared.moves.Choice.{Choice}
 use Rattle.steps.specs.declared.moves.Move.the-variants.{Release, Act, Use}
 use Rattle.pruning.specs.Rules.{ready, stateAfter, commute}
 
@@ -26,18 +28,15 @@ actionNumber Release = 0
 actionNumber (Act k) = k
 actionNumber (Use m) = 0
 
--- `goesFirst` of the rules: the move `x` at place `p` would go before `y` at `q`.
-abbrev pub before : Move → ℕ → Move → ℕ → Bool
-before y q x p =
-    cond (ltb p q) true
-    (cond (eqb p q) (cond (ltb 0 (actionNumber x)) (ltb (actionNumber x) (actionNumber y)) false) false)
+-- A choice, as a step of the definitions.
+abbrev pub stepOf : Choice → Step
+stepOf x = step (moveNumber (x .mv)) (x .place .0)
 
--- An action may be taken for the goal.
-unfoldable pub wanted : Rules → Waiting → Run.Move → Bool
-wanted r g Run.release = true
-wanted r g (Run.act k) = r .mayAct (actionAt (r .domain) k) (g .formula)
-wanted r g (Run.use-method m) = true
-wanted r g Run.unknown = true
+-- `goesFirst` of the rules: `x` would go before `y`.
+abbrev pub before : Choice → Choice → Bool
+before y x =
+    cond (ltb (x .place .0) (y .place .0)) true
+    (cond (eqb (x .place .0) (y .place .0)) (cond (ltb 0 (actionNumber (x .mv))) (ltb (actionNumber (x .mv)) (actionNumber (y .mv))) false) false)
 
 -- More goals wait after the move than the `left` steps after it. `count` goals wait before it.
 unfoldable pub crowded : ℕ → ℕ → Run.Move → Bool

@@ -1,37 +1,37 @@
 // The steps that the search leaves out, one test for each reason. None stands on the first of the shortest traces.
 use formulas::literals;
 use formulas::parts;
-use freeness::free;
+use network::goals;
+use network::goals::Goals;
 use network::waiting::Entry;
 use network::waiting::Place;
-use network::waiting::Waiting;
 use reading::tag;
 use sheets::check::Shop;
 use spans::index;
 use spans::index::Span;
 use spans::operators;
+use steps::moves::Choice;
 use steps::moves::Move;
 use steps::problem;
-use steps::problem::Problem;
 ghost use mathlib.Core.Path.{_≡_};
 ghost use mathlib.Core.Bool.{_&&_};
-ghost use Prim.Native.Nat.{_≤_};
+ghost use Prim.Native.Nat.{_≤_, _<_};
 ghost use lib.ListN.{take};
 ghost use Rattle.hgn.specs.Tag as Tag;
 ghost use Rattle.hgn.specs.Lists.{any, all};
 ghost use Rattle.hgn.specs.Meaning.{literals as literalsOf};
 ghost use Rattle.hgn.specs.State.{formulaHolds, relevant};
-ghost use Rattle.hgn.specs.Network.{free as freeIn, mostWaiting};
+ghost use Rattle.hgn.specs.Network.{free as freeIn};
 ghost use Rattle.hgn.specs.Shop.{domain, actionCount, methodCount};
 ghost use Rattle.hgn.specs.Replay.{rulesOf};
-ghost use Rattle.hgn.specs.Trace.{step};
-ghost use Rattle.network.specs.Entries.{listOf, waitingOf};
+ghost use Rattle.network.specs.Entries.{waitingOf};
 ghost use Rattle.spans.specs.Index.{spanRows};
 ghost use Rattle.spans.specs.Tables.{Indexed};
 ghost use Rattle.steps.specs.Moves.{Known, knownOf};
-ghost use Rattle.steps.specs.Steps.{problemIn};
+ghost use Rattle.steps.specs.Taking.{problemWith, Kept};
+ghost use Rattle.network.specs.Goals.{countIn, entryIn, listIn, Within};
 ghost use Rattle.pruning.specs.Rules as Rules;
-ghost use Rattle.reasons.specs.Tests.{moveNumber, actionNumber, before, swapReady, crowded as isCrowded, wanted as isWanted};
+ghost use Rattle.reasons.specs.Tests.{stepOf, actionNumber, before, swapReady, crowded as isCrowded};
 ghost use Rattle.hgn.specs.Search.{mostDepth};
 
 // What a move asks of the state at a goal: that it holds, or that the needs do.
@@ -60,22 +60,6 @@ pub fn ready<'a>(
             let head = Span::of_shop(rows.from, rows.first);
             parts::needs_hold(atoms, shop, order, head)
         }
-    }
-}
-
-// An action is relevant to the goal. Of a method that is asked when it is taken.
-pub fn wanted<'a>(shop: &'a [u16], order: &'a [u16], tables: &[u16], goal: Entry, mv: Move) -> bool
-    requires { ⌜ Indexed (now shop) (now order) (now tables) × Known (actionCount (now shop)) (methodCount (now shop)) mv ⌝ }
-    ensures { λ r. ⌜ r ≡ isWanted (rulesOf (now (shop .entry))) (waitingOf (now (shop .entry)) (now (order .entry)) goal) (knownOf mv) ⌝ }
-{
-    match mv {
-        Move::Release => true,
-        Move::Act(action) => {
-            let rows = operators::action_rows(tables, action);
-            let wants = goal.rows;
-            parts::helps(shop, order, rows, tag::MAKES_TRUE, tag::MAKES_FALSE, wants)
-        }
-        Move::Use(method) => true,
     }
 }
 
@@ -118,25 +102,25 @@ pub fn idle<'a>(
 fn helps_lower<'a>(
     shop: &'a [u16],
     order: &'a [u16],
-    waiting: Waiting,
+    goals: &[u16; Goals::WORDS],
     rows: Span,
     place: Place,
 ) -> bool
-    requires { ⌜ (place .0 ≤ waiting .count) × (waiting .count ≤ mostWaiting) ⌝ }
+    requires { ⌜ Kept (now shop) (now order) (now goals) × (place .0 ≤ countIn (now goals)) ⌝ }
     ensures { λ r. ⌜ r ≡ any
         (λ g. relevant (literalsOf Tag.makesTrue Tag.makesFalse (spanRows (now (shop .entry)) (now (order .entry)) rows)) (g .formula)
-        && freeIn (listOf (now (shop .entry)) (now (order .entry)) waiting) g)
-        (take (place .0) (listOf (now (shop .entry)) (now (order .entry)) waiting)) ⌝ }
+        && freeIn (listIn (now (shop .entry)) (now (order .entry)) (now (goals .entry))) g)
+        (take (place .0) (listIn (now (shop .entry)) (now (order .entry)) (now (goals .entry)))) ⌝ }
 {
     let end = place.0;
     let mut i: u16 = 0;
     while i < end {
         let here = i;
         i += 1;
-        let goal = waiting.goal(Place(here));
-        let wants = goal.rows;
-        if parts::helps(shop, order, rows, tag::MAKES_TRUE, tag::MAKES_FALSE, wants) {
-            if free::is_free(shop, order, waiting, Place(here)) {
+        if goals::is_free(goals, Place(here)) {
+            let goal = goals::entry_at(goals, Place(here));
+            let wants = goal.rows;
+            if parts::helps(shop, order, rows, tag::MAKES_TRUE, tag::MAKES_FALSE, wants) {
                 return true;
             }
         }
@@ -149,19 +133,19 @@ pub fn lower_too<'a>(
     shop: &'a [u16],
     order: &'a [u16],
     tables: &[u16],
-    waiting: Waiting,
-    mv: Move,
-    place: Place,
+    goals: &[u16; Goals::WORDS],
+    choice: Choice,
 ) -> bool
-    requires { ⌜ Indexed (now shop) (now order) (now tables) × Known (actionCount (now shop)) (methodCount (now shop)) mv ⌝ }
-    requires { ⌜ (place .0 ≤ waiting .count) × (waiting .count ≤ mostWaiting) ⌝ }
-    ensures { λ r. ⌜ r ≡ Rules.lowerToo (rulesOf (now (shop .entry))) (listOf (now (shop .entry)) (now (order .entry)) waiting) (place .0) (knownOf mv) ⌝ }
+    requires { ⌜ Indexed (now shop) (now order) (now tables) × Known (actionCount (now shop)) (methodCount (now shop)) (choice .mv) ⌝ }
+    requires { ⌜ Kept (now shop) (now order) (now goals) × (choice .place .0 ≤ countIn (now goals)) ⌝ }
+    ensures { λ r. ⌜ r ≡ Rules.lowerToo (rulesOf (now (shop .entry))) (listIn (now (shop .entry)) (now (order .entry)) (now (goals .entry))) (choice .place .0) (knownOf (choice .mv)) ⌝ }
 {
+    let mv = choice.mv;
     match mv {
         Move::Release => false,
         Move::Act(action) => {
             let rows = operators::action_rows(tables, action);
-            helps_lower(shop, order, waiting, rows, place)
+            helps_lower(shop, order, goals, rows, choice.place)
         }
         Move::Use(method) => false,
     }
@@ -172,15 +156,15 @@ fn goals_hold<'a>(
     shop: &'a [u16],
     order: &'a [u16],
     atoms: &[bool; Shop::MOST_ATOMS as usize],
-    waiting: Waiting,
+    goals: &[u16; Goals::WORDS],
 ) -> bool
-    requires { ⌜ waiting .count ≤ mostWaiting ⌝ }
-    ensures { λ r. ⌜ r ≡ all (λ g. formulaHolds (now (atoms .entry)) (g .formula)) (listOf (now (shop .entry)) (now (order .entry)) waiting) ⌝ }
+    requires { ⌜ Within (now goals) ⌝ }
+    ensures { λ r. ⌜ r ≡ all (λ g. formulaHolds (now (atoms .entry)) (g .formula)) (listIn (now (shop .entry)) (now (order .entry)) (now (goals .entry))) ⌝ }
 {
-    let count = waiting.count as usize;
-    let mut i = 0;
+    let count = goals::count_of(goals);
+    let mut i: u16 = 0;
     while i < count {
-        let goal = waiting.entries[i];
+        let goal = goals::entry_at(goals, Place(i));
         let rows = goal.rows;
         if parts::goal_holds(atoms, shop, order, rows) {
             i += 1;
@@ -192,17 +176,22 @@ fn goals_hold<'a>(
 }
 
 // Too few steps are left for the goals that wait: each takes a release, and one more step is wanted where one of them does not hold.
-pub fn too_few_left<'a>(shop: &'a [u16], order: &'a [u16], problem: Problem, left: u16) -> bool
-    requires { ⌜ problem .waiting .count ≤ mostWaiting ⌝ }
-    ensures { λ r. ⌜ r ≡ Rules.tooFewLeft left (problemIn (now (shop .entry)) (now (order .entry)) problem) ⌝ }
+pub fn too_few_left<'a>(
+    shop: &'a [u16],
+    order: &'a [u16],
+    atoms: &[bool; Shop::MOST_ATOMS as usize],
+    goals: &[u16; Goals::WORDS],
+    left: u16,
+) -> bool
+    requires { ⌜ Within (now goals) ⌝ }
+    ensures { λ r. ⌜ r ≡ Rules.tooFewLeft left (problemWith (now (shop .entry)) (now (order .entry)) (now (atoms .entry)) (now (goals .entry))) ⌝ }
 {
-    let waiting = problem.waiting;
-    if left < waiting.count {
+    let count = goals::count_of(goals);
+    if left < count {
         return true;
     }
-    if left == waiting.count {
-        let atoms = problem.atoms;
-        if goals_hold(shop, order, &atoms, waiting) {
+    if left == count {
+        if goals_hold(shop, order, atoms, goals) {
             return false;
         }
         return true;
@@ -221,43 +210,47 @@ fn action_of(mv: Move) -> u16
     }
 }
 
-// The step after the last one would come earlier in the order on traces if it were taken first.
-pub fn goes_first(last: Move, last_place: Place, mv: Move, place: Place) -> bool
-    ensures { λ r. ⌜ r ≡ before last («last_place» .0) mv (place .0) ⌝ }
+// A step after the last one would come earlier in the order on traces if it were taken first.
+fn goes_first(last: Choice, choice: Choice) -> bool
+    ensures { λ r. ⌜ r ≡ before last choice ⌝ }
 {
+    let place = choice.place;
+    let mv = choice.mv;
+    let last_place = last.place;
+    let last_mv = last.mv;
     if place.0 < last_place.0 {
         return true;
     }
     if place.0 == last_place.0 {
         let action = action_of(mv);
         if 0 < action {
-            return action < action_of(last);
+            return action < action_of(last_mv);
         }
     }
     false
 }
 
-// The state that a move leaves.
-pub fn state_after<'a>(
+// A move changes the state where it stands: an action by its effects, another move not at all.
+fn change<'a>(
     shop: &'a [u16],
     order: &'a [u16],
     tables: &[u16],
-    atoms: [bool; Shop::MOST_ATOMS as usize],
+    atoms: &mut [bool; Shop::MOST_ATOMS as usize],
     mv: Move,
-) -> [bool; Shop::MOST_ATOMS as usize]
+)
     requires { ⌜ Indexed (now shop) (now order) (now tables) × Known (actionCount (now shop)) (methodCount (now shop)) mv ⌝ }
-    ensures { λ r. ⌜ r ≡ Rules.stateAfter (domain (now (shop .entry))) atoms (knownOf mv) ⌝ }
+    ensures { λ _. ⌜ now (atoms .exit) ≡ Rules.stateAfter (domain (now (shop .entry))) (now (atoms .entry)) (knownOf mv) ⌝ }
 {
     match mv {
-        Move::Release => atoms,
+        Move::Release => {}
         Move::Act(action) => {
-            let rows = operators::action_rows(tables, action);
-            problem::changed(atoms, shop, order, rows)
+            problem::act(atoms, shop, order, tables, action);
         }
-        Move::Use(method) => atoms,
+        Move::Use(method) => {}
     }
 }
 
+// Two states have the same atoms true. They are handed over, since only of an array that is held is its length known.
 fn same_state(a: [bool; Shop::MOST_ATOMS as usize], b: [bool; Shop::MOST_ATOMS as usize]) -> bool
     ensures { λ r. ⌜ r ≡ Rules.sameState a b ⌝ }
 {
@@ -277,12 +270,12 @@ fn commute<'a>(
     shop: &'a [u16],
     order: &'a [u16],
     tables: &[u16],
-    atoms: [bool; Shop::MOST_ATOMS as usize],
+    atoms: &[bool; Shop::MOST_ATOMS as usize],
     last: Move,
     mv: Move,
 ) -> bool
     requires { ⌜ Indexed (now shop) (now order) (now tables) × Known (actionCount (now shop)) (methodCount (now shop)) last × Known (actionCount (now shop)) (methodCount (now shop)) mv ⌝ }
-    ensures { λ r. ⌜ r ≡ Rules.commute (domain (now (shop .entry))) atoms (knownOf last) (knownOf mv) ⌝ }
+    ensures { λ r. ⌜ r ≡ Rules.commute (domain (now (shop .entry))) (now (atoms .entry)) (knownOf last) (knownOf mv) ⌝ }
 {
     if action_of(last) == 0 {
         return true;
@@ -290,60 +283,63 @@ fn commute<'a>(
     if action_of(mv) == 0 {
         return true;
     }
-    let first = state_after(shop, order, tables, atoms, mv);
-    let then = state_after(shop, order, tables, first, last);
-    let other = state_after(shop, order, tables, atoms, last);
-    let second = state_after(shop, order, tables, other, mv);
-    same_state(then, second)
+    let mut swapped = *atoms;
+    change(shop, order, tables, &mut swapped, mv);
+    change(shop, order, tables, &mut swapped, last);
+    let mut taken = *atoms;
+    change(shop, order, tables, &mut taken, last);
+    change(shop, order, tables, &mut taken, mv);
+    same_state(swapped, taken)
 }
 
-// Both moves ask nothing that fails, this one first, and leave the same state.
+// Both moves ask nothing that fails where this one is taken before the last, and they leave the same state.
 fn swap_ready<'a>(
     shop: &'a [u16],
     order: &'a [u16],
     tables: &[u16],
-    atoms: [bool; Shop::MOST_ATOMS as usize],
-    last_goal: Entry,
-    last: Move,
-    goal: Entry,
-    mv: Move,
+    atoms: &[bool; Shop::MOST_ATOMS as usize],
+    goals: &[u16; Goals::WORDS],
+    last: Choice,
+    choice: Choice,
 ) -> bool
-    requires { ⌜ Indexed (now shop) (now order) (now tables) × Known (actionCount (now shop)) (methodCount (now shop)) last × Known (actionCount (now shop)) (methodCount (now shop)) mv ⌝ }
-    ensures { λ r. ⌜ r ≡ swapReady (domain (now (shop .entry))) atoms
-        (waitingOf (now (shop .entry)) (now (order .entry)) «last_goal») (knownOf last) (waitingOf (now (shop .entry)) (now (order .entry)) goal) (knownOf mv) ⌝ }
+    requires { ⌜ Indexed (now shop) (now order) (now tables) × Within (now goals) × (last .place .0 < countIn (now goals)) × (choice .place .0 < countIn (now goals)) ⌝ }
+    requires { ⌜ Known (actionCount (now shop)) (methodCount (now shop)) (last .mv) × Known (actionCount (now shop)) (methodCount (now shop)) (choice .mv) ⌝ }
+    ensures { λ r. ⌜ r ≡ swapReady (domain (now (shop .entry))) (now (atoms .entry))
+        (waitingOf (now (shop .entry)) (now (order .entry)) (entryIn (now (goals .entry)) (last .place .0))) (knownOf (last .mv))
+        (waitingOf (now (shop .entry)) (now (order .entry)) (entryIn (now (goals .entry)) (choice .place .0))) (knownOf (choice .mv)) ⌝ }
 {
-    if ready(shop, order, tables, &atoms, goal, mv) {
-        let next = state_after(shop, order, tables, atoms, mv);
-        if ready(shop, order, tables, &next, last_goal, last) {
-            return commute(shop, order, tables, atoms, last, mv);
+    let mv = choice.mv;
+    let last_mv = last.mv;
+    let goal = goals::entry_at(goals, choice.place);
+    if ready(shop, order, tables, atoms, goal, mv) {
+        let mut next = *atoms;
+        change(shop, order, tables, &mut next, mv);
+        let last_goal = goals::entry_at(goals, last.place);
+        if ready(shop, order, tables, &next, last_goal, last_mv) {
+            return commute(shop, order, tables, atoms, last_mv, mv);
         }
     }
     false
 }
 
-// The step could have been taken before the last one, which was taken from the record `before`, with the same result.
+// The step could have been taken before the last one with the same result. The last one was taken from this state and these goals.
 pub fn could_go_first<'a>(
     shop: &'a [u16],
     order: &'a [u16],
     tables: &[u16],
-    before: Problem,
-    last: Move,
-    last_place: Place,
-    mv: Move,
-    place: Place,
+    atoms: &[bool; Shop::MOST_ATOMS as usize],
+    goals: &[u16; Goals::WORDS],
+    last: Choice,
+    choice: Choice,
 ) -> bool
-    requires { ⌜ Indexed (now shop) (now order) (now tables) × (before .waiting .count ≤ mostWaiting) ⌝ }
-    requires { ⌜ Known (actionCount (now shop)) (methodCount (now shop)) last × Known (actionCount (now shop)) (methodCount (now shop)) mv ⌝ }
-    ensures { λ r. ⌜ r ≡ Rules.couldGoFirst (domain (now (shop .entry))) (problemIn (now (shop .entry)) (now (order .entry)) before)
-        (step (moveNumber last) («last_place» .0)) (step (moveNumber mv) (place .0)) ⌝ }
+    requires { ⌜ Indexed (now shop) (now order) (now tables) × Kept (now shop) (now order) (now goals) × (last .place .0 < countIn (now goals)) ⌝ }
+    requires { ⌜ Known (actionCount (now shop)) (methodCount (now shop)) (last .mv) × Known (actionCount (now shop)) (methodCount (now shop)) (choice .mv) ⌝ }
+    ensures { λ r. ⌜ r ≡ Rules.couldGoFirst (domain (now (shop .entry)))
+        (problemWith (now (shop .entry)) (now (order .entry)) (now (atoms .entry)) (now (goals .entry))) (stepOf last) (stepOf choice) ⌝ }
 {
-    if goes_first(last, last_place, mv, place) {
-        let waiting = before.waiting;
-        if free::is_free(shop, order, waiting, place) {
-            let atoms = before.atoms;
-            let last_goal = waiting.goal(last_place);
-            let goal = waiting.goal(place);
-            return swap_ready(shop, order, tables, atoms, last_goal, last, goal, mv);
+    if goes_first(last, choice) {
+        if goals::is_free(goals, choice.place) {
+            return swap_ready(shop, order, tables, atoms, goals, last, choice);
         }
     }
     false

@@ -2,7 +2,8 @@
 use Prim.Native.Nat.{ℕ, zero, suc, _+_, _-_, _<_, _≤_}
 use native.Mathlib.Omega.{arith}
 use mathlib.Core.Path.{_≡_, refl, sym, ap, _∙_}
-use mathlib.Core.Bool.{Bool, true, false}
+use mathlib.Core.Bool.{Bool, true, false, cond}
+use mathlib.Core.Logic.{inl}
 use mathlib.Core.List.{List}
 use mathlib.Core.Option.{Option, none, some}
 use lib.Dec.{leb}
@@ -10,7 +11,7 @@ use borrow.Author.Tests.{leb-true, leb-false}
 use Rattle.hgn.specs.Lists.{from, firstSome}
 use Rattle.hgn.specs.Run.{Step, Problem, Rules}
 use Rattle.pruning.specs.Pruned.{prunedOf, noStep, prunedShortest}
-use Rattle.search.specs.Founds.{stepsFrom, foundOf}
+use Rattle.search.specs.Founds.{stepsFrom, foundOf, Finds}
 use Rattle.search.specs.declared.found.Found.{Found}
 
 module _ {B : Type 0} (f : ℕ → Option B) (i k : ℕ) where
@@ -21,6 +22,17 @@ module _ {B : Type 0} (f : ℕ → Option B) (i k : ℕ) where
   none-here : f i ≡ none → firstSome f (from i (suc k)) ≡ firstSome f (from (suc i) k)
   unfolding from firstSome
   none-here e = rw (e, firstSome)
+
+-- What a search of one length told is what there is to find.
+pub finds-is : {search : ℕ → Option (List Step)} {n left : ℕ} (f : Found) → Finds search n left f → foundOf n left f ≡ search left
+finds-is {search} {n} {left} f e = go (f .found) refl
+  where
+    is : {b : Bool} → f .found ≡ b → foundOf n left f ≡ cond b (some (stepsFrom n left f)) none
+    is h = ap (λ (b : Bool). cond b (some (stepsFrom n left f)) none) h
+
+    go : (b : Bool) → f .found ≡ b → foundOf n left f ≡ search left
+    go true h = is h ∙ sym (e .found h)
+    go false h = is h ∙ sym (e .nothing h left (inl refl))
 
 module _ (depth : ℕ) (r : Rules) (P : Problem) where
   -- The first trace of so many steps.
@@ -83,3 +95,10 @@ module _ (depth : ℕ) (r : Rules) (P : Problem) where
       let q : suc depth - i ≡ 0 = omega arith in
       let is : foundOf 0 depth f ≡ none = rw b refl in
       is ∙ sym (below ∙ ap {B = Option (List Step)} (λ (k : ℕ). firstSome atDepth (from i k)) q)
+
+  -- None of this length and of every longer one.
+  pub none-longer : (m i : ℕ) → depth < i + m → NoneBelow i → ((k : ℕ) → i ≤ k → atDepth k ≡ none) → (f : Found) → f .found ≡ false
+      → foundOf 0 depth f ≡ prunedShortest depth r P
+  none-longer zero i h below none-at f b = none-found i (omega arith) below f b
+  none-longer (suc m) i h below none-at f b =
+      none-longer m (suc i) (omega arith) (none-next i below (none-at i (omega arith))) (λ k l. none-at k (omega arith)) f b

@@ -3,52 +3,73 @@ use Prim.Native.Nat.{ℕ, suc, _+_, _-_, _<_, _≤_}
 use native.Mathlib.Omega.{arith}
 use native.Mathlib.Numerals.{add-one}
 use mathlib.Core.Path.{_≡_, refl, ap, sym, subst, _∙_}
-use mathlib.Core.Bool.{Bool, true, false, cond}
+use mathlib.Core.Bool.{Bool, true, false, not, cond}
+use mathlib.Core.Logic.{inl, inr, ⊎-elim}
 use mathlib.Core.List.{List, [], _∷_, zipWith}
 use mathlib.Core.Option.{Option, none, some, Option·map, orElse}
-use lib.Dec.{eqb, leb, eqb·suc-zero}
+use lib.Dec.{eqb, leb}
 use lib.ListN.{length}
 use borrow.Author.Tests.{eqb-true, eqb-false, leb-true, leb-false}
 use Rattle.hgn.specs.Meaning.{Domain}
-use Rattle.hgn.specs.State.{State}
 use Rattle.hgn.specs.Network.{Waiting, free, goalAt}
-use Rattle.hgn.specs.Run.{Step, firstMethod, Problem, Rules}
+use Rattle.hgn.specs.Run.{Step, firstMethod, Problem, Rules, moved}
 use Rattle.hgn.specs.Questions.{passed}
 use Rattle.hgn.specs.Shop.{domain, actionCount, methodCount, checkShop}
 use Rattle.hgn.specs.Trace.{step}
 use Rattle.hgn.specs.Replay.{rulesOf}
 use Rattle.hgn.specs.Search.{movesOf, noSteps}
+use Rattle.hgn.proofs.Tests.{false-not-true}
 use Rattle.hgn.proofs.Checked.{shop-counts}
-use Rattle.reading.proofs.Laws.{told}
-use Rattle.network.specs.Entries.{waitingOf, listOf, entryAt}
 use Rattle.steps.specs.Moves.{Known, knownOf}
-use Rattle.steps.specs.Steps.{problemIn}
 use Rattle.spans.specs.Tables.{Indexed}
 use Rattle.steps.specs.declared.moves.Move.{Move}
 use Rattle.steps.specs.declared.moves.Move.the-variants.{Release, Act, Use}
-use Rattle.steps.specs.declared.problem.Problem as Record
-use Rattle.network.specs.declared.waiting.Entry.{Entry}
-use Rattle.network.specs.declared.waiting.Waiting as Code
-use Rattle.network.proofs.Goals.{list-length}
+use Rattle.steps.specs.declared.moves.Choice.{Choice}
 use Rattle.spans.proofs.Tables.{shop-passes}
-use Rattle.pruning.specs.Rules.{ready, idle}
+use Rattle.pruning.specs.Rules.{tooFewLeft}
 use Rattle.pruning.specs.Pruned.{prunedOf, moveAt, movesFrom, placesFrom}
 use Rattle.pruning.proofs.Loops.{moves-count, moves-next, moves-end, places-next, not-free-none, pruned-places}
-use Rattle.search.specs.Founds.{stepsFrom, foundOf}
-use Rattle.reasons.specs.Tests.{nthMove, moveNumber, wanted, crowded}
-use Rattle.search.specs.Trials.{opens, Tries, tried}
+use Rattle.search.specs.Founds.{stepsFrom, Covers, Finds}
+use Rattle.reasons.specs.Tests.{nthMove, moveNumber, stepOf, crowded}
+use Rattle.search.specs.Trials.{tried, Suffices, Open}
 use Rattle.search.specs.declared.found.Found.{Found}
-use Rattle.search.specs.declared.trial.Tried.{Tried}
-use Rattle.reasons.proofs.Reading.{number-read}
-use Rattle.reasons.proofs.Lower.{goal-at}
-use Rattle.search.proofs.Trying.{open-not-idle, closed-none, Trial}
+use Rattle.search.proofs.Trying.{crowded-out, open-few, open-kept, open-none}
 
--- What was found, or not.
-pub found-none : (n k : ℕ) (r : Found) → r .found ≡ false → foundOf n k r ≡ none
-found-none n k r e = rw e refl
+-- Which lengths are covered.
+module _ {left k : ℕ} where
+  pub covers-long : (cuts : ℕ) → Covers cuts left k → left ≤ k
+  covers-long cuts = ⊎-elim (λ e. omega arith) (λ h. h .1)
 
-pub found-some : (n k : ℕ) (r : Found) → r .found ≡ true → foundOf n k r ≡ some (stepsFrom n k r)
-found-some n k r e = rw e refl
+  -- Where no more branches were cut, all lengths that another search covers.
+  pub covers-all : (cuts : ℕ) {less : ℕ} → less ≤ cuts → Covers cuts left k → Covers less left k
+  covers-all cuts e = ⊎-elim (λ h. inl h) (λ h. let z = h .0 in inr (omega arith, h .1))
+
+  -- Where a branch was cut, only its own.
+  pub covers-own : {cuts : ℕ} → 0 < cuts → Covers cuts left k → k ≡ left
+  covers-own e = ⊎-elim (λ h. h) (λ h. let z = h .0 in absurd (omega arith))
+
+-- A test that was denied.
+pub not-so : (b : Bool) → not b ≡ true → b ≡ false
+not-so true e = sym e
+not-so false e = refl
+
+pub so : (b : Bool) → not b ≡ false → b ≡ true
+so true e = refl
+so false e = sym e
+
+-- A move can tell nothing where a branch was cut before and the move is crowded.
+pub cannot-tell : (b c : Bool) {r : Bool} → r ≡ cond b (not c) true → r ≡ false → (b ≡ true) × (c ≡ true)
+cannot-tell true true e f = (refl, refl)
+cannot-tell true false e f = absurd (false-not-true _ f e)
+cannot-tell false c e f = absurd (false-not-true _ f e)
+
+-- What a search told.
+module _ {search : ℕ → Option (List Step)} {n left : ℕ} (r : Found) where
+  pub finds-some : r .found ≡ true → search left ≡ some (stepsFrom n left r) → Finds search n left r
+  finds-some h e = record { found = λ q. e; nothing = λ q. absurd (false-not-true _ q h) }
+
+  pub finds-none : r .found ≡ false → ((k : ℕ) → Covers (r .cuts) left k → search k ≡ none) → Finds search n left r
+  finds-none h e = record { found = λ q. absurd (false-not-true _ h q); nothing = λ q. e }
 
 module _ (f : Step → Option (List Step)) (d : Domain) where
   -- Past a move by which nothing is found.
@@ -115,75 +136,71 @@ pub moves-done : (shop : List ℕ) (passes : checkShop shop ≡ passed) (f : Ste
 moves-done shop passes f p i all e h =
     moves-end f (domain shop) p i (omega (arith, moves-count (domain shop), shop-counts shop passes .0, shop-counts shop passes .1))
 
--- The place routine's ends.
-pub found-at-end : (r : Rules) (P₀ : Problem) (y : Step) (n : ℕ) (s : State) (w : List Waiting) (count : ℕ) → length w ≡ count → (f : Found)
-    → f .found ≡ eqb count 0 → foundOf n 0 f ≡ prunedOf 0 r P₀ y n (record { state = s; waiting = w })
+-- The place routine's ends: with no step left, a trace is found where nothing waits.
+pub ends-found : (r : Rules) (P₀ : Problem) (y : Step) (n : ℕ) (P : Problem) (f : Found) → length (P .waiting) ≡ 0
+    → prunedOf 0 r P₀ y n P ≡ some (stepsFrom n 0 f)
 unfolding prunedOf noSteps stepsFrom zipWith
-found-at-end r P₀ y n s [] count e f h = rw (h, sym e) refl
-found-at-end r P₀ y n s (g ∷ w) count e f h = rw (h, sym e, eqb·suc-zero (length w)) refl
+ends-found r P₀ y n P f e = go (P .waiting) e
+  where
+    go : (w : List Waiting) → length w ≡ 0 → noSteps w ≡ some []
+    go [] e = refl
+    go (g ∷ w) e = absurd (omega arith)
 
--- The move routine, where it tries its steps.
-module _ {shop order table : List ℕ} {problem b : Record.Problem} {y : Step} {left n p : ℕ}
-    (g : Trial shop order table problem b y left n p) where
-  abbrev P : Problem
-  P = problemIn shop order problem
+pub ends-none : (r : Rules) (P₀ : Problem) (y : Step) (n : ℕ) (P : Problem) → (length (P .waiting) ≡ 0 → ⊥) → prunedOf 0 r P₀ y n P ≡ none
+unfolding prunedOf noSteps
+ends-none r P₀ y n P e = go (P .waiting) e
+  where
+    go : (w : List Waiting) → (length w ≡ 0 → ⊥) → noSteps w ≡ none
+    go [] e = absurd (e refl)
+    go (g ∷ w) e = refl
 
-  abbrev finds : Step → Option (List Step)
-  finds = tried left (rulesOf shop) (problemIn shop order b) y n P
+-- What is found with an open step, by what is found from the problem that it leaves.
+module _ {shop order table : List ℕ} (ix : Indexed shop order table) {P₀ : Problem} {y : Step} {P : Problem} (x : Choice)
+    (o : Open shop P₀ y P x) (n left : ℕ) (h : 1 ≤ left) where
+  abbrev by-step : ℕ → Option (List Step)
+  by-step k = tried (k - 1) (rulesOf shop) P₀ y n P (stepOf x)
 
-  module _ (m : Move) (known : Known (actionCount shop) (methodCount shop) m) where
-    abbrev x : Step
-    x = step (moveNumber m) p
+  abbrev P′ : Problem
+  P′ = moved (domain shop) n P (x .place .0) (knownOf (x .mv))
 
-    abbrev opens-at : Entry → Bool
-    opens-at goal = opens (rulesOf shop) (problem .atoms) (waitingOf shop order goal) left (problem .waiting .count) (knownOf m)
+  abbrev onward : ℕ → Option (List Step)
+  onward k = prunedOf k (rulesOf shop) P (stepOf x) (n + 1) P′
 
-    pub find-closed : {goal : Entry} → goal ≡ entryAt (problem .waiting) p → {o : Bool} → o ≡ opens-at goal → o ≡ false → finds x ≡ none
-    find-closed e o h =
-        closed-none (rulesOf shop) left (problemIn shop order b) y n P x _
-        (rw (list-length shop order (problem .waiting) (g .full) (g .few), number-read (g .ix) m known, goal-at shop order (problem .waiting) p, sym e) (told o h))
+  on-number : (k : ℕ) → onward k ≡ prunedOf k (rulesOf shop) P (stepOf x) (suc n) P′
+  on-number k = ap {B = Option (List Step)} (λ (i : ℕ). prunedOf k (rulesOf shop) P (stepOf x) i P′) (add-one n)
 
-    -- Open, it is not idle.
-    pub find-open : (goal : Entry) {o : Bool} → o ≡ opens-at goal → o ≡ true → idle (domain shop) (problem .atoms) (knownOf m) ≡ false
-    find-open goal o h =
-        open-not-idle (crowded left (problem .waiting .count) (knownOf m))
-        (ready (domain shop) (problem .atoms) (waitingOf shop order goal) (knownOf m)) (wanted (rulesOf shop) (waitingOf shop order goal) (knownOf m))
-        (idle (domain shop) (problem .atoms) (knownOf m)) (told o h)
+  pub follow-crowded : crowded (left - 1) (length (P .waiting)) (knownOf (x .mv)) ≡ true → (r : Found) → r .found ≡ false → 0 < r .cuts → Finds by-step n left r
+  follow-crowded e r f c =
+      finds-none r f λ k v.
+      let z = covers-own c v in
+      ap {B = Option (List Step)} by-step z ∙ crowded-out ix P₀ y P x (o .taken .taking .known) (left - 1) n e
 
-    module _ {t : Tried} (tries : Tries shop order left b y problem n x t) where
-      pub find-out : t .kept ≡ false → finds x ≡ none
-      find-out h = tries .goes-on _ ∙ rw h refl
+  pub follow-short : Suffices shop P′ (left - 1) false → (r : Found) → r .found ≡ false → 0 < r .cuts → Finds by-step n left r
+  follow-short e r f c =
+      finds-none r f λ k v.
+      let z = covers-own c v in
+      ap {B = Option (List Step)} by-step z
+      ∙ ⊎-elim (λ few. open-few ix P₀ y P x (o .taken .taking .known) o (left - 1) n few)
+      (λ none-here. open-none ix P₀ y P x (o .taken .taking .known) o (left - 1) n (none-here P (stepOf x) (suc n))) e
 
-      module _ (h : t .kept ≡ true) (r : Found)
-          (e : foundOf (n + 1) left r ≡ prunedOf left (rulesOf shop) P x (n + 1) (problemIn shop order (t .problem))) where
-        on : finds x ≡ Option·map (λ xs. x ∷ xs) (foundOf (n + 1) left r)
-        on =
-            tries .goes-on _ ∙ rw h refl
-            ∙ ap (λ (k : ℕ). Option·map {B = List Step} (λ xs. x ∷ xs) (prunedOf left (rulesOf shop) P x k (problemIn shop order (t .problem))))
-            (sym (add-one n))
-            ∙ ap {B = Option (List Step)} (Option·map (λ xs. x ∷ xs)) (sym e)
+  module _ (r : Found) (finds : Finds onward (n + 1) (left - 1) r) where
+    pub follow-none : r .found ≡ false → Finds by-step n left r
+    follow-none f =
+        finds-none r f λ k v.
+        open-none ix P₀ y P x (o .taken .taking .known) o (k - 1) n (sym (on-number (k - 1)) ∙ finds .nothing f (k - 1) (down k v))
+      where
+        down : (k : ℕ) → Covers (r .cuts) left k → Covers (r .cuts) (left - 1) (k - 1)
+        down k = ⊎-elim (λ e. inl (omega arith)) (λ v. inr (v .0, let w = v .1 in omega arith))
 
-        pub find-none : r .found ≡ false → finds x ≡ none
-        find-none q = on ∙ rw q refl
-
-        pub find-some : r .found ≡ true → finds x ≡ some (x ∷ stepsFrom (n + 1) left r)
-        find-some q = on ∙ rw q refl
-
--- What was found with a step more before it.
-pub found-with : (n left move p : ℕ) (r w : Found) (m : Move) → 1 ≤ left → move ≡ moveNumber m
-    → (w .found ≡ r .found) × ((k : ℕ) → stepsFrom n (suc k) w ≡ step move p ∷ stepsFrom (n + 1) k r) → r .found ≡ true
-    → foundOf n left w ≡ some (step (moveNumber m) p ∷ stepsFrom (n + 1) (left - 1) r)
-found-with n left move p r w m h e f q =
-    let z : suc (left - 1) ≡ left = omega arith in
-    found-some n left w (f .0 ∙ q)
-    ∙ ap {B = Option (List Step)} some
-    (ap (λ (j : ℕ). stepsFrom n j w) (sym z) ∙ f .1 (left - 1)
-    ∙ ap {B = List Step} (λ (j : ℕ). step j p ∷ stepsFrom (n + 1) (left - 1) r) e)
-
--- Whether the goal of a place is free, by its entry.
-pub free-here : (shop order : List ℕ) (w : Code.Waiting) (p : ℕ) {f v : Bool}
-    → f ≡ free (listOf shop order w) (waitingOf shop order (entryAt w p)) → f ≡ v → free (listOf shop order w) (goalAt (listOf shop order w) p) ≡ v
-free-here shop order w p e q = ap (free (listOf shop order w)) (goal-at shop order w p) ∙ told e q
+    pub follow-some : r .found ≡ true → tooFewLeft (left - 1) P′ ≡ false → (w : Found) {move : ℕ} → move ≡ moveNumber (x .mv)
+        → (w .found ≡ r .found) × ((k : ℕ) → stepsFrom n (suc k) w ≡ step move (x .place .0) ∷ stepsFrom (n + 1) k r) → Finds by-step n left w
+    follow-some f few w e is =
+        let z : suc (left - 1) ≡ left = omega arith in
+        finds-some w (is .0 ∙ f)
+        (open-kept ix P₀ y P x (o .taken .taking .known) o (left - 1) n few
+        ∙ ap {B = Option (List Step)} (Option·map (λ xs. stepOf x ∷ xs)) (sym (on-number (left - 1)) ∙ finds .found f)
+        ∙ ap {B = Option (List Step)} (λ (j : ℕ). some (step j (x .place .0) ∷ stepsFrom (n + 1) (left - 1) r)) (sym e)
+        ∙ ap {B = Option (List Step)} some (sym (is .1 (left - 1)) ∙ ap (λ (j : ℕ). stepsFrom n j w) z))
 
 -- The place routine, with `left` steps to go.
 module _ (r : Rules) (P₀ : Problem) (y : Step) (left n : ℕ) (P : Problem) where

@@ -1,15 +1,17 @@
 // The search's call. Document 01, "Questions" 41 to 43.
 use crate::explore;
+use crate::explore::Node;
 use crate::found::Found;
+use needed::achievers;
 use needed::least;
-use network::waiting::Place;
+use network::goals::Goals;
 use reading::refusal::Refusal;
 use replay::first;
 use sheets::check;
+use sheets::check::Shop;
 use spans::index::Tables;
-use steps::moves::Move;
-use steps::problem::Problem;
 ghost use mathlib.Core.Path.{_≡_};
+ghost use mathlib.Core.Bool.{false};
 ghost use Prim.Native.Nat.{suc, _≤_, _+_};
 ghost use lib.ListN.{length};
 ghost use lib.Seq.{paste};
@@ -20,11 +22,10 @@ ghost use Rattle.hgn.specs.Order.{checkOrder};
 ghost use Rattle.hgn.specs.Replay.{rulesOf};
 ghost use Rattle.hgn.specs.Search as Search;
 ghost use Rattle.hgn.specs.Search.{searched, mostDepth};
-ghost use Rattle.spans.specs.Tables.{Indexed};
-ghost use Rattle.steps.specs.Steps.{problemIn};
+ghost use Rattle.steps.specs.Taking.{problemWith, Going};
 ghost use Rattle.pruning.specs.Pruned.{prunedShortest};
+ghost use Rattle.search.specs.Trials.{Lent};
 ghost use Rattle.search.specs.Founds.{searchedOf, shortestOf, traceOf};
-ghost use Rattle.hgn.specs.Network.{mostWaiting};
 
 // The first of the shortest traces and its length; or no trace, and then the depth.
 pub struct Shortest {
@@ -32,43 +33,50 @@ pub struct Shortest {
     pub steps: Found,
 }
 
-// The first trace of as many steps as every trace has at least, or of one more, and so on up to `depth`.
+impl Shortest {
+    fn none(depth: u16) -> Shortest
+        ensures { λ r. ⌜ (r .length ≡ depth) × (r .steps .found ≡ false) ⌝ }
+    {
+        let steps = Found::none(0);
+        Shortest {
+            length: depth,
+            steps: steps,
+        }
+    }
+}
+
+// The first trace of as many steps as every trace has at least, or of one more, and so on up to `depth`. A length at which no branch is
+// cut for want of steps is the last that is tried, since then no longer trace exists.
 fn deepen<'a>(
     shop: &'a [u16],
     order: &'a [u16],
     tables: &[u16],
-    first: Problem,
+    table: &[u16; achievers::WORDS],
+    atoms: &[bool; Shop::MOST_ATOMS as usize],
+    goals: &[u16; Goals::WORDS],
     depth: u16,
 ) -> Shortest
-    requires { ⌜ Indexed (now shop) (now order) (now tables) × (first .waiting .count ≤ mostWaiting) × (depth ≤ mostDepth) ⌝ }
-    ensures { λ r. ⌜ (shortestOf r ≡ prunedShortest depth (rulesOf (now (shop .entry))) (problemIn (now (shop .entry)) (now (order .entry)) first)) × (r .length ≤ depth) ⌝ }
+    requires { ⌜ Lent (now shop) (now order) (now tables) (now table) ⌝ }
+    requires { ⌜ Going (now shop) (now order) 0 (now atoms) (now goals) × (depth ≤ mostDepth) ⌝ }
+    ensures { λ r. ⌜ (shortestOf r ≡ prunedShortest depth (rulesOf (now (shop .entry)))
+        (problemWith (now (shop .entry)) (now (order .entry)) (now (atoms .entry)) (now (goals .entry)))) × (r .length ≤ depth) ⌝ }
 {
-    let mut left = least::at_least(shop, order, tables, first);
+    let mut left = least::at_least(shop, order, tables, table, atoms, goals);
     while left <= depth {
-        let steps = explore::places(
-            shop,
-            order,
-            tables,
-            first,
-            first,
-            Move::Release,
-            Place(0),
-            left,
-            0,
-        );
+        let node = Node::first(left);
+        let steps = explore::places(shop, order, tables, table, atoms, goals, atoms, goals, node);
         if steps.found {
             return Shortest {
                 length: left,
                 steps: steps,
             };
         }
+        if steps.cuts == 0 {
+            return Shortest::none(depth);
+        }
         left += 1;
     }
-    let steps = Found::empty(false);
-    Shortest {
-        length: depth,
-        steps: steps,
-    }
+    Shortest::none(depth)
 }
 
 // The shortest trace of sheets that passed, found with the index in tables that are lent.
@@ -77,8 +85,12 @@ fn search_indexed<'a>(shop: &'a [u16], order: &'a [u16], depth: u16, tables: &mu
     requires { ⌜ mostRows + suc (mostActions + mostMethods) ≤ length (now tables) ⌝ }
     ensures { λ r. ⌜ (shortestOf r ≡ searched (now (shop .entry)) (now (order .entry)) depth) × (r .length ≤ depth) ⌝ }
 {
-    let first = first::prepared(shop, order, tables);
-    deepen(shop, order, tables, first, depth)
+    let mut goals = Goals::empty();
+    first::begun(shop, order, tables, &mut goals.words);
+    let atoms = first::start(shop, order);
+    let mut table = [0u16; achievers::WORDS];
+    achievers::fill(shop, order, tables, &mut table);
+    deepen(shop, order, tables, &table, &atoms, &goals.words, depth)
 }
 
 // The shortest trace of sheets that passed. The tables of their index have the largest sheet's size, since no size is known before.

@@ -1,146 +1,243 @@
-// The search by places and moves: the place routine calls the move routine, which calls the place routine again with one step fewer.
-// Document 01, "How a derivation runs".
+// The search by places and moves: the place routine calls the move routine at each free goal, that one tries each open move, and behind
+// a step that is taken the place routine goes on with one step fewer. Document 01, "How a derivation runs".
 use crate::found::Found;
 use crate::trial;
-use freeness::free;
-use network::waiting::Entry;
+use needed::achievers;
+use network::goals;
+use network::goals::Goals;
 use network::waiting::Place;
 use reasons::moves;
-use scan::rows::word;
+use reasons::rules;
+use sheets::check::Shop;
+use sheets::sizes::ShopSizes;
+use steps::moves::Choice;
 use steps::moves::Move;
-use steps::problem::Problem;
+use steps::taking;
 ghost use mathlib.Core.Path.{_≡_};
 ghost use mathlib.Core.Bool.{true};
 ghost use Prim.Native.Nat.{_≤_, _<_, _+_, _-_};
-ghost use Rattle.hgn.specs.Network.{free as freeIn, goalAt, mostWaiting};
-ghost use Rattle.hgn.specs.Shop.{domain, actionCount, methodCount};
-ghost use Rattle.hgn.specs.Replay.{rulesOf};
-ghost use Rattle.hgn.specs.Trace.{step};
-ghost use Rattle.network.specs.Entries.{listOf, entryAt};
-ghost use Rattle.spans.specs.Tables.{Indexed};
-ghost use Rattle.steps.specs.Moves.{Known};
-ghost use Rattle.steps.specs.Steps.{problemIn};
-ghost use Rattle.pruning.specs.Pruned.{prunedOf, movesFrom};
-ghost use Rattle.search.specs.Founds.{foundOf};
-ghost use Rattle.reasons.specs.Tests.{moveNumber};
-ghost use Rattle.search.specs.Trials.{tried};
+ghost use Rattle.hgn.specs.Network.{free as freeIn, goalAt};
+ghost use Rattle.hgn.specs.Shop.{domain};
+ghost use Rattle.hgn.specs.Run.{Problem, Step};
 ghost use Rattle.hgn.specs.Search.{mostDepth};
+ghost use Rattle.hgn.specs.Replay.{rulesOf};
+ghost use Rattle.network.specs.Goals.{countIn, listIn};
+ghost use Rattle.steps.specs.Taking.{problemWith, Going};
+ghost use Rattle.pruning.specs.Pruned.{prunedOf, movesFrom};
+ghost use Rattle.reasons.specs.Tests.{stepOf};
+ghost use Rattle.search.specs.Founds.{Finds};
+ghost use Rattle.search.specs.Trials.{firstNode, Lent, Stands, Open, tried};
 
-// The first trace of so many steps from a record on, none of them left out. The last step was taken from the record `before`.
+// Where a search stands: the last step, how many steps are left, the number of the next, and how many branches
+// were cut before it for want of steps.
+pub struct Node {
+    pub last: Choice,
+    pub left: u16,
+    pub number: u16,
+    pub cuts: u16,
+}
+
+impl Node {
+    // Where a search of so many steps begins. No step was before it: a release at place 0 stands for that one, which no step goes before.
+    pub fn first(left: u16) -> Node
+        ensures { λ r. ⌜ r ≡ firstNode left ⌝ }
+    {
+        Node {
+            last: Choice {
+                mv: Move::Release,
+                place: Place(0),
+            },
+            left: left,
+            number: 0,
+            cuts: 0,
+        }
+    }
+}
+
+// The first trace of so many steps from a state and its goals on, none of its steps left out. The last step was taken from the state and
+// the goals `before`.
 pub fn places<'a>(
     shop: &'a [u16],
     order: &'a [u16],
     tables: &[u16],
-    problem: Problem,
-    before: Problem,
-    last: Move,
-    last_place: Place,
-    left: u16,
-    number: u16,
+    table: &[u16; achievers::WORDS],
+    atoms: &[bool; Shop::MOST_ATOMS as usize],
+    goals: &[u16; Goals::WORDS],
+    before_atoms: &[bool; Shop::MOST_ATOMS as usize],
+    before_goals: &[u16; Goals::WORDS],
+    node: Node,
 ) -> Found
-    requires { ⌜ Indexed (now shop) (now order) (now tables) ⌝ }
-    requires { ⌜ (problem .waiting .count ≤ mostWaiting) × (before .waiting .count ≤ mostWaiting) × (number + left ≤ mostDepth) ⌝ }
-    requires { ⌜ Known (actionCount (now shop)) (methodCount (now shop)) last ⌝ }
-    ensures { λ r. ⌜ foundOf number left r ≡ prunedOf left (rulesOf (now (shop .entry))) (problemIn (now (shop .entry)) (now (order .entry)) before)
-        (step (moveNumber last) («last_place» .0)) number (problemIn (now (shop .entry)) (now (order .entry)) problem) ⌝ }
+    requires { ⌜ Lent (now shop) (now order) (now tables) (now table) × Stands (now shop) (now order) (now atoms) (now goals) (now «before_goals») node ⌝ }
+    ensures { λ r. ⌜ Finds (λ k. prunedOf k (rulesOf (now (shop .entry)))
+        (problemWith (now (shop .entry)) (now (order .entry)) (now («before_atoms» .entry)) (now («before_goals» .entry))) (stepOf (node .last)) (node .number)
+        (problemWith (now (shop .entry)) (now (order .entry)) (now (atoms .entry)) (now (goals .entry)))) (node .number) (node .left) r ⌝ }
 {
-    let waiting = problem.waiting;
-    let count = waiting.count;
+    let count = goals::count_of(goals);
+    let left = node.left;
     if left == 0 {
-        return Found::empty(count == 0);
+        if count == 0 {
+            return Found::end();
+        }
+        return Found::cut(node.cuts);
     }
+    let last = node.last;
+    let mut cuts = node.cuts;
     let mut i: u16 = 0;
     while i < count {
-        let place = i;
+        let place = Place(i);
         i += 1;
-        if free::is_free(shop, order, waiting, Place(place)) {
-            let goal = waiting.goal(Place(place));
+        if goals::is_free(goals, place) {
+            let here = Node {
+                last: last,
+                left: left,
+                number: node.number,
+                cuts: cuts,
+            };
             let r = moves(
                 shop,
                 order,
                 tables,
-                problem,
-                before,
-                last,
-                last_place,
-                left,
-                number,
-                goal,
-                Place(place),
+                table,
+                atoms,
+                goals,
+                before_atoms,
+                before_goals,
+                here,
+                place,
             );
             if r.found {
                 return r;
             }
+            if cuts < r.cuts {
+                cuts = r.cuts;
+            }
         }
     }
-    Found::empty(false)
+    Found::none(cuts)
 }
 
-// The first trace of so many steps from a record on whose first step is taken at this free goal, none of them left out.
-pub fn moves<'a>(
+// The first trace of so many steps whose first is taken at this free goal, none of its steps left out.
+fn moves<'a>(
     shop: &'a [u16],
     order: &'a [u16],
     tables: &[u16],
-    problem: Problem,
-    before: Problem,
-    last: Move,
-    last_place: Place,
-    left: u16,
-    number: u16,
-    goal: Entry,
+    table: &[u16; achievers::WORDS],
+    atoms: &[bool; Shop::MOST_ATOMS as usize],
+    goals: &[u16; Goals::WORDS],
+    before_atoms: &[bool; Shop::MOST_ATOMS as usize],
+    before_goals: &[u16; Goals::WORDS],
+    node: Node,
     place: Place,
 ) -> Found
-    requires { ⌜ Indexed (now shop) (now order) (now tables) ⌝ }
-    requires { ⌜ (problem .waiting .count ≤ mostWaiting) × (before .waiting .count ≤ mostWaiting) × (number + left ≤ mostDepth) × (1 ≤ left) ⌝ }
-    requires { ⌜ Known (actionCount (now shop)) (methodCount (now shop)) last ⌝ }
-    requires { ⌜ (place .0 < problem .waiting .count) × (goal ≡ entryAt (problem .waiting) (place .0)) ⌝ }
-    requires { ⌜ freeIn (listOf (now shop) (now order) (problem .waiting)) (goalAt (listOf (now shop) (now order) (problem .waiting)) (place .0)) ≡ true ⌝ }
-    ensures { λ r. ⌜ foundOf number left r ≡ movesFrom
-        (tried (left - 1) (rulesOf (now (shop .entry))) (problemIn (now (shop .entry)) (now (order .entry)) before)
-        (step (moveNumber last) («last_place» .0)) number (problemIn (now (shop .entry)) (now (order .entry)) problem))
-        (domain (now (shop .entry))) (place .0) 0 ⌝ }
+    requires { ⌜ Lent (now shop) (now order) (now tables) (now table) × Stands (now shop) (now order) (now atoms) (now goals) (now «before_goals») node × (1 ≤ node .left) ⌝ }
+    requires { ⌜ (place .0 < countIn (now goals)) × (freeIn (listIn (now shop) (now order) (now goals)) (goalAt (listIn (now shop) (now order) (now goals)) (place .0)) ≡ true) ⌝ }
+    ensures { λ r. ⌜ Finds (λ k. movesFrom (tried (k - 1) (rulesOf (now (shop .entry)))
+        (problemWith (now (shop .entry)) (now (order .entry)) (now («before_atoms» .entry)) (now («before_goals» .entry))) (stepOf (node .last)) (node .number)
+        (problemWith (now (shop .entry)) (now (order .entry)) (now (atoms .entry)) (now (goals .entry)))) (domain (now (shop .entry))) (place .0) 0)
+        (node .number) (node .left) r ⌝ }
 {
-    let actions = word(shop, 1);
-    let all = actions + word(shop, 2);
-    let atoms = problem.atoms;
-    let waiting = problem.waiting;
-    let count = waiting.count;
+    let sizes = ShopSizes::of(shop);
+    let all = sizes.actions + sizes.methods;
+    let count = goals::count_of(goals);
+    let last = node.last;
+    let left = node.left;
+    let mut cuts = node.cuts;
     let mut i: u16 = 0;
     while i <= all {
-        let mv = moves::nth(i, actions);
+        let mv = moves::nth(i, sizes.actions);
         i += 1;
-        if trial::open_at(shop, order, tables, &atoms, goal, left - 1, count, mv) {
-            let t = trial::try_step(
+        let choice = Choice {
+            mv: mv,
+            place: place,
+        };
+        if trial::can_tell(cuts, left - 1, count, mv) {
+            if trial::is_open(
                 shop,
                 order,
                 tables,
-                problem,
-                before,
+                atoms,
+                goals,
+                before_atoms,
+                before_goals,
                 last,
-                last_place,
-                left - 1,
-                number,
-                mv,
-                place,
-            );
-            if t.kept {
-                let next = t.problem;
-                let r = places(
-                    shop,
-                    order,
-                    tables,
-                    next,
-                    problem,
-                    mv,
-                    place,
-                    left - 1,
-                    number + 1,
-                );
+                choice,
+            ) {
+                let here = Node {
+                    last: last,
+                    left: left,
+                    number: node.number,
+                    cuts: cuts,
+                };
+                let r = follow(shop, order, tables, table, atoms, goals, here, choice);
                 if r.found {
-                    return r.with(number, moves::number_of(mv), place);
+                    return r;
+                }
+                if cuts < r.cuts {
+                    cuts = r.cuts;
                 }
             }
         }
     }
-    Found::empty(false)
+    Found::none(cuts)
+}
+
+// The first trace of so many steps whose first is this open step, none of its steps left out.
+fn follow<'a>(
+    shop: &'a [u16],
+    order: &'a [u16],
+    tables: &[u16],
+    table: &[u16; achievers::WORDS],
+    atoms: &[bool; Shop::MOST_ATOMS as usize],
+    goals: &[u16; Goals::WORDS],
+    node: Node,
+    choice: Choice,
+) -> Found
+    requires { ⌜ Lent (now shop) (now order) (now tables) (now table) × Going (now shop) (now order) (node .number) (now atoms) (now goals)
+        × (1 ≤ node .left) × (node .number + node .left ≤ mostDepth) ⌝ }
+    requires { ⌜ ((P₀ : Problem) × (y : Step) × Open (now shop) P₀ y (problemWith (now shop) (now order) (now atoms) (now goals)) choice) ⌝ }
+    ensures { λ r. ⌜ ((P₀ : Problem) (y : Step) → Open (now (shop .entry)) P₀ y (problemWith (now (shop .entry)) (now (order .entry)) (now (atoms .entry)) (now (goals .entry))) choice
+        → Finds (λ k. tried (k - 1) (rulesOf (now (shop .entry))) P₀ y (node .number)
+        (problemWith (now (shop .entry)) (now (order .entry)) (now (atoms .entry)) (now (goals .entry))) (stepOf choice)) (node .number) (node .left) r) ⌝ }
+{
+    let left = node.left - 1;
+    let number = node.number;
+    let mv = choice.mv;
+    if rules::crowded(left, goals::count_of(goals), mv) {
+        return Found::cut(node.cuts);
+    }
+    let mut next_atoms = *atoms;
+    let mut next_goals = *goals;
+    taking::apply(
+        shop,
+        order,
+        tables,
+        &mut next_atoms,
+        &mut next_goals,
+        number,
+        choice,
+    );
+    let next = Node {
+        last: choice,
+        left: left,
+        number: number + 1,
+        cuts: node.cuts,
+    };
+    if !trial::may_suffice(shop, order, tables, table, &next_atoms, &next_goals, next) {
+        return Found::cut(node.cuts);
+    }
+    let r = places(
+        shop,
+        order,
+        tables,
+        table,
+        &next_atoms,
+        &next_goals,
+        atoms,
+        goals,
+        next,
+    );
+    if r.found {
+        return r.with(number, moves::number_of(mv), choice.place);
+    }
+    r
 }

@@ -1,115 +1,131 @@
-// One step of the search: taken, if it may be and is not left out.
-use network::waiting::Entry;
-use network::waiting::Place;
+// The tests of a step of the search that need no more than the state and the goals before it.
+use crate::explore::Node;
+use crate::found::Found;
+use needed::achievers;
+use needed::least;
+use network::goals;
+use network::goals::Goals;
 use reasons::rules;
 use sheets::check::Shop;
+use steps::moves::Choice;
 use steps::moves::Move;
-use steps::problem::Problem;
-use steps::step;
+use steps::questions;
 ghost use mathlib.Core.Path.{_≡_};
-ghost use mathlib.Core.Bool.{true, false};
-ghost use Prim.Native.Nat.{_≤_, _<_};
-ghost use Rattle.hgn.specs.Network.{free, goalAt, mostWaiting};
-ghost use Rattle.hgn.specs.Shop.{domain, actionCount, methodCount};
-ghost use Rattle.hgn.specs.Replay.{rulesOf};
-ghost use Rattle.hgn.specs.Trace.{step};
-ghost use Rattle.network.specs.Entries.{listOf, waitingOf, orderOrigin};
-ghost use Rattle.spans.specs.Tables.{Indexed};
-ghost use Rattle.steps.specs.Moves.{Known, knownOf};
-ghost use Rattle.pruning.specs.Rules.{idle};
-ghost use Rattle.reasons.specs.Tests.{moveNumber};
-ghost use Rattle.search.specs.Trials.{opens, Tries};
+ghost use mathlib.Core.Bool.{true, cond, not};
+ghost use Prim.Native.Nat.{_<_, _≤_};
+ghost use lib.Dec.{ltb};
+ghost use Rattle.hgn.specs.Network.{free, goalAt};
+ghost use Rattle.hgn.specs.Shop.{actionCount, methodCount};
 ghost use Rattle.hgn.specs.Search.{mostDepth};
+ghost use Rattle.spans.specs.Tables.{Indexed};
+ghost use Rattle.network.specs.Goals.{countIn, listIn, Within};
+ghost use Rattle.steps.specs.Moves.{Known, knownOf};
+ghost use Rattle.steps.specs.Taking.{problemWith, Kept};
+ghost use Rattle.reasons.specs.Tests.{crowded, stepOf};
+ghost use Rattle.search.specs.Trials.{Lent, MayTake, Opens, Suffices};
 
-// A step that was taken and kept, with the record that it leaves; or the record as it was.
-pub struct Tried {
-    pub kept: bool,
-    pub problem: Problem,
-}
-
-impl Tried {
-    // Left out, or refused.
-    pub fn out(problem: Problem) -> Tried
-        ensures { λ r. ⌜ (r .kept ≡ false) × (r .problem ≡ problem) ⌝ }
-    {
-        Tried {
-            kept: false,
-            problem: problem,
-        }
-    }
-}
-
-// What can be told from the state, the goal and the number waiting: the move may be taken there, is not idle, and leaves enough steps
-// for the releases.
-pub fn open_at<'a>(
+// No question of the move's own is answered no at a free goal, and it is no action that leaves the state as it is.
+fn may_take<'a>(
     shop: &'a [u16],
     order: &'a [u16],
     tables: &[u16],
     atoms: &[bool; Shop::MOST_ATOMS as usize],
-    goal: Entry,
-    left: u16,
-    count: u16,
-    mv: Move,
+    goals: &[u16; Goals::WORDS],
+    choice: Choice,
 ) -> bool
-    requires { ⌜ Indexed (now shop) (now order) (now tables) × Known (actionCount (now shop)) (methodCount (now shop)) mv × (left ≤ mostDepth) ⌝ }
-    ensures { λ r. ⌜ r ≡ opens (rulesOf (now (shop .entry))) (now (atoms .entry)) (waitingOf (now (shop .entry)) (now (order .entry)) goal) left count (knownOf mv) ⌝ }
+    requires { ⌜ Indexed (now shop) (now order) (now tables) × Within (now goals) × (choice .place .0 < countIn (now goals)) × Known (actionCount (now shop)) (methodCount (now shop)) (choice .mv) ⌝ }
+    requires { ⌜ free (listIn (now shop) (now order) (now goals)) (goalAt (listIn (now shop) (now order) (now goals)) (choice .place .0)) ≡ true ⌝ }
+    ensures { λ r. ⌜ MayTake (now (shop .entry)) (problemWith (now (shop .entry)) (now (order .entry)) (now (atoms .entry)) (now (goals .entry))) choice r ⌝ }
 {
-    if rules::crowded(left, count, mv) {
+    let mv = choice.mv;
+    let count = goals::count_of(goals);
+    let goal = goals::entry_at(goals, choice.place);
+    let refusal = questions::of_move(shop, order, tables, atoms, mv, goal.rows, count);
+    if refusal.number != 0 {
         return false;
     }
-    if rules::ready(shop, order, tables, atoms, goal, mv) {
-        if rules::wanted(shop, order, tables, goal, mv) {
-            if rules::idle(shop, order, tables, atoms, mv) {
-                return false;
-            }
-            return true;
+    if rules::idle(shop, order, tables, atoms, mv) {
+        return false;
+    }
+    true
+}
+
+// A step at a free goal is open: it may be taken, and however many steps are left no reason leaves it out. The last step was taken from
+// the state and the goals `before`.
+pub fn is_open<'a>(
+    shop: &'a [u16],
+    order: &'a [u16],
+    tables: &[u16],
+    atoms: &[bool; Shop::MOST_ATOMS as usize],
+    goals: &[u16; Goals::WORDS],
+    before_atoms: &[bool; Shop::MOST_ATOMS as usize],
+    before_goals: &[u16; Goals::WORDS],
+    last: Choice,
+    choice: Choice,
+) -> bool
+    requires { ⌜ Indexed (now shop) (now order) (now tables) × Kept (now shop) (now order) (now goals) × (choice .place .0 < countIn (now goals)) ⌝ }
+    requires { ⌜ Kept (now shop) (now order) (now «before_goals») × (last .place .0 < countIn (now «before_goals»)) ⌝ }
+    requires { ⌜ Known (actionCount (now shop)) (methodCount (now shop)) (last .mv) × Known (actionCount (now shop)) (methodCount (now shop)) (choice .mv) ⌝ }
+    requires { ⌜ free (listIn (now shop) (now order) (now goals)) (goalAt (listIn (now shop) (now order) (now goals)) (choice .place .0)) ≡ true ⌝ }
+    ensures { λ r. ⌜ Opens (now (shop .entry)) (problemWith (now (shop .entry)) (now (order .entry)) (now («before_atoms» .entry)) (now («before_goals» .entry))) (stepOf last)
+        (problemWith (now (shop .entry)) (now (order .entry)) (now (atoms .entry)) (now (goals .entry))) choice r ⌝ }
+{
+    if may_take(shop, order, tables, atoms, goals, choice) {
+        if rules::could_go_first(
+            shop,
+            order,
+            tables,
+            before_atoms,
+            before_goals,
+            last,
+            choice,
+        ) {
+            return false;
         }
+        if rules::lower_too(shop, order, tables, goals, choice) {
+            return false;
+        }
+        return true;
     }
     false
 }
 
-// The move at a free goal where it is open, with so many steps left after it. The last step was taken from the record `before`.
-pub fn try_step<'a>(
+// A move can tell something new: no more goals wait after it than steps are left, or no branch was cut before for want of steps.
+pub fn can_tell(cuts: u16, left: u16, count: u16, mv: Move) -> bool
+    requires { ⌜ left ≤ mostDepth ⌝ }
+    ensures { λ r. ⌜ r ≡ cond (ltb 0 cuts) (not (crowded left count (knownOf mv))) true ⌝ }
+{
+    if 0 < cuts {
+        return !rules::crowded(left, count, mv);
+    }
+    true
+}
+
+// The least number of steps is worked out in a long search only, and where so many steps are left: elsewhere it costs more than it saves.
+const WORTH_COUNTING: u16 = 5;
+
+// The steps left at a node may be enough for the goals that wait: not too few, and no fewer than every accepted trace has.
+pub fn may_suffice<'a>(
     shop: &'a [u16],
     order: &'a [u16],
     tables: &[u16],
-    problem: Problem,
-    before: Problem,
-    last: Move,
-    last_place: Place,
-    left: u16,
-    number: u16,
-    mv: Move,
-    place: Place,
-) -> Tried
-    requires { ⌜ Indexed (now shop) (now order) (now tables) ⌝ }
-    requires { ⌜ (place .0 < problem .waiting .count) × (problem .waiting .count ≤ mostWaiting) × (before .waiting .count ≤ mostWaiting) × (number < orderOrigin) ⌝ }
-    requires { ⌜ Known (actionCount (now shop)) (methodCount (now shop)) last × Known (actionCount (now shop)) (methodCount (now shop)) mv ⌝ }
-    requires { ⌜ free (listOf (now shop) (now order) (problem .waiting)) (goalAt (listOf (now shop) (now order) (problem .waiting)) (place .0)) ≡ true ⌝ }
-    requires { ⌜ idle (domain (now shop)) (problem .atoms) (knownOf mv) ≡ false ⌝ }
-    ensures { λ r. ⌜ Tries (now (shop .entry)) (now (order .entry)) left before (step (moveNumber last) («last_place» .0)) problem number
-        (step (moveNumber mv) (place .0)) r ⌝ }
+    table: &[u16; achievers::WORDS],
+    atoms: &[bool; Shop::MOST_ATOMS as usize],
+    goals: &[u16; Goals::WORDS],
+    node: Node,
+) -> bool
+    requires { ⌜ Lent (now shop) (now order) (now tables) (now table) × Within (now goals) ⌝ }
+    ensures { λ r. ⌜ Suffices (now (shop .entry)) (problemWith (now (shop .entry)) (now (order .entry)) (now (atoms .entry)) (now (goals .entry))) (node .left) r ⌝ }
 {
-    // Asked first, so that the record is not copied where no step can go first.
-    if rules::goes_first(last, last_place, mv, place) {
-        if rules::could_go_first(shop, order, tables, before, last, last_place, mv, place) {
-            return Tried::out(problem);
-        }
+    let left = node.left;
+    if rules::too_few_left(shop, order, atoms, goals, left) {
+        return false;
     }
-    let waiting = problem.waiting;
-    if rules::lower_too(shop, order, tables, waiting, mv, place) {
-        return Tried::out(problem);
+    if node.cuts < Found::MANY {
+        return true;
     }
-    let stepped = step::take_move(shop, order, tables, problem, number, mv, place);
-    if stepped.refusal.number != 0 {
-        return Tried::out(problem);
+    if WORTH_COUNTING <= left {
+        return least::at_least(shop, order, tables, table, atoms, goals) <= left;
     }
-    let next = stepped.problem;
-    if rules::too_few_left(shop, order, next, left) {
-        return Tried::out(problem);
-    }
-    Tried {
-        kept: true,
-        problem: next,
-    }
+    true
 }

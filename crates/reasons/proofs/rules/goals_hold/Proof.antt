@@ -1,26 +1,26 @@
 -- Whether every goal holds is decided among the goals from `i` on. Assumes nothing.
-use Prim.Native.Nat.{_-_}
+use Prim.Native.Nat.{_-_, _<_, _≤_}
 use native.Mathlib.Omega.{arith}
 use mathlib.Core.Path.{_≡_, refl}
-use lib.ListN.{length, drop, length-map}
+use lib.ListN.{drop}
 use borrow.Author.Needs.{needs}
 use Rattle.hgn.specs.Lists.{all}
 use Rattle.hgn.specs.State.{formulaHolds}
-use Rattle.network.specs.Entries.{listOf}
-use Rattle.network.proofs.Places.{entry-inside}
+use Rattle.network.specs.Goals.{countIn, listIn}
 use Rattle.reasons.proofs.Lower.{holds-end, holds-not, holds-on}
 use Rattle.reasons.proofs.rules.goals_hold.Statement.{statement}
 use Rattle.reasons.proofs.rules.goals_hold.Tie as tie
 
 abbrev Inv-loop : tie.InvT-loop
-Inv-loop shop order atoms waiting count i₀ i =
-    all (λ g. formulaHolds atoms (g .formula)) (listOf shop order waiting) ≡ all (λ g. formulaHolds atoms (g .formula)) (drop i (listOf shop order waiting))
+Inv-loop shop order atoms goals count i₀ i =
+    all (λ g. formulaHolds atoms (g .formula)) (listIn shop order goals) ≡ all (λ g. formulaHolds atoms (g .formula)) (drop i (listIn shop order goals))
 
 abbrev μ-loop : tie.MeasureT-loop
-μ-loop shop order atoms waiting count i₀ i = count - i
+μ-loop shop order atoms goals count i₀ i = count - i
 
-full : (s : tie.Start Inv-loop μ-loop) → length (s .args .t4 .entries) ≡ 64
-full s = omega (arith, simp length-map at (s .good .1 .1 .1 .0 .1 .1 .0 .1 .0 .1))
+-- A turn of the loop stands at a place where a goal waits.
+inside : (l : tie.In-loop Inv-loop μ-loop) → l .before .loop .i < countIn (l .before .before .before .before .before .args .goals .now)
+inside l = omega (arith, l .loop-test .taken, l .before .before .count-of .ensures)
 
 pub goals-hold-spec : {M : Type 1} → statement M
 goals-hold-spec =
@@ -28,21 +28,27 @@ goals-hold-spec =
     (tie.spec
     Inv-loop
     μ-loop
-    (λ c. search needs)
-    (λ c. refl)
-    (λ c. search needs)
-    (λ c. search needs)
+    -- count-of-requires
     (λ c κs. search needs)
+    -- loop-holds
+    (λ c. refl)
+    -- entry-at-requires
+    (λ c κs. omega (arith, c .loop-test .taken, c .before .before .count-of .ensures, c .before .before .before .before .before .pre .few))
+    -- goal-holds-requires
+    (λ c κs. search needs)
+    -- add-i
     (λ c. search needs)
+    -- loop-less
     (λ c. search needs)
+    -- loop-again
     (λ c.
-    let s = c .before .before .before .before .before .before .before .before in
-    holds-on _ _ _ (full s) (s .pre) _ _ (c .before .before .before .before .before .loop .inv) (c .before .before .before .before .loop-test .taken)
-    (entry-inside _ _ _ _ _ (c .before .before .before .before .loop-test .taken) (omega (arith, full s, s .pre))) (c .before .goal-holds .ensures) (c .if1 .taken))
+    holds-on _ _ _ _ _ (c .before .before .before .before .before .loop .inv) (inside (c .before .before .before .before)) (c .before .before .before .entry-at .ensures)
+    (c .before .goal-holds .ensures) (c .if1 .taken))
+    -- returns: one does not hold
     (λ c.
-    let s = c .before .before .before .before .before .before .before .before in
-    holds-not _ _ _ (full s) (s .pre) _ _ (c .before .before .before .before .before .loop .inv) (c .before .before .before .before .loop-test .taken)
-    (entry-inside _ _ _ _ _ (c .before .before .before .before .loop-test .taken) (omega (arith, full s, s .pre))) (c .before .goal-holds .ensures) (c .if1 .left))
+    holds-not _ _ _ _ _ (c .before .before .before .before .before .loop .inv) (inside (c .before .before .before .before)) (c .before .before .before .entry-at .ensures)
+    (c .before .goal-holds .ensures) (c .if1 .left))
+    -- returns-2: all hold
     (λ c.
-    let s = c .before .before .before .before in
-    holds-end _ _ _ (full s) (s .pre) _ _ (c .before .loop .inv) (c .loop-test .left)))
+    let h : countIn (c .before .before .before .before .before .args .goals .now) ≤ c .before .loop .i = omega (arith, c .loop-test .left, c .before .before .count-of .ensures) in
+    holds-end _ _ _ _ _ (c .before .loop .inv) h))

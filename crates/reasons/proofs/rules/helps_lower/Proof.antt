@@ -3,28 +3,32 @@ use Prim.Native.Nat.{_-_}
 use native.Mathlib.Omega.{arith}
 use mathlib.Core.Path.{_≡_, refl}
 use mathlib.Core.Bool.{_&&_}
-use lib.ListN.{length, take, drop, length-map}
+use lib.ListN.{take, drop}
 use borrow.Author.Needs.{needs}
 use Rattle.hgn.specs.Lists.{any}
+use Rattle.hgn.specs.Tag as Tag
 use Rattle.hgn.specs.Meaning.{literals}
 use Rattle.hgn.specs.State.{relevant}
 use Rattle.hgn.specs.Network.{free}
 use Rattle.spans.specs.Index.{spanRows}
-use Rattle.network.specs.Entries.{listOf}
+use Rattle.network.specs.Goals.{listIn}
 use Rattle.reasons.proofs.Lower.{lower-none, lower-irrelevant, lower-found, lower-held}
 use Rattle.reasons.proofs.rules.helps_lower.Statement.{statement}
 use Rattle.reasons.proofs.rules.helps_lower.Tie as tie
 
 abbrev Inv-loop : tie.InvT-loop
-Inv-loop shop order waiting rows end i₀ i =
-    any (λ g. relevant (literals 5 6 (spanRows shop order rows)) (g .formula) && free (listOf shop order waiting) g) (take end (listOf shop order waiting))
-    ≡ any (λ g. relevant (literals 5 6 (spanRows shop order rows)) (g .formula) && free (listOf shop order waiting) g) (drop i (take end (listOf shop order waiting)))
+Inv-loop shop order goals rows end i₀ i =
+    any (λ g. relevant (literals Tag.makesTrue Tag.makesFalse (spanRows shop order rows)) (g .formula) && free (listIn shop order goals) g) (take end (listIn shop order goals))
+    ≡ any (λ g. relevant (literals Tag.makesTrue Tag.makesFalse (spanRows shop order rows)) (g .formula) && free (listIn shop order goals) g)
+    (drop i (take end (listIn shop order goals)))
 
 abbrev μ-loop : tie.MeasureT-loop
-μ-loop shop order waiting rows end i₀ i = end - i
+μ-loop shop order goals rows end i₀ i = end - i
 
-full : (s : tie.Start Inv-loop μ-loop) → length (s .args .waiting .entries) ≡ 64
-full s = omega (arith, simp length-map at (s .good .1 .1 .0 .1 .1 .0 .1 .0 .1))
+-- A turn of the loop.
+module _ (l : tie.In-loop Inv-loop μ-loop) where
+  abbrev begun : tie.Start Inv-loop μ-loop
+  begun = l .before .before .before .before
 
 pub helps-lower-spec : {M : Type 1} → statement M
 helps-lower-spec =
@@ -32,29 +36,36 @@ helps-lower-spec =
     (tie.spec
     Inv-loop
     μ-loop
+    -- loop-holds
     (λ c. refl)
+    -- add-i
     (λ c. search needs)
+    -- is-free-requires
+    (λ c κs. let s = begun c in omega (arith, c .loop-test .taken, s .pre .1, s .pre .0 .within .few))
+    -- entry-at-requires
+    (λ c κs. let l = c .before .before in let s = begun l in omega (arith, l .loop-test .taken, s .pre .1, s .pre .0 .within .few))
+    -- helps-requires
     (λ c κs. search needs)
-    (λ c κs. search needs)
-    (λ c κs. search needs)
+    -- returns: a lower goal is free and wants it
     (λ c.
-    let f = c .before .before .before in
-    let l = f .before .before .before in
-    let s = l .before .before .before .before in
-    lower-found _ _ _ (full s) (s .pre .1) _ _ _ (s .pre .0) (l .before .loop .inv) (l .loop-test .taken) (f .before .before .goal .ensures)
-    (f .helps .ensures) (c .before .before .if1 .taken) (c .before .is-free .ensures) (c .if2 .taken))
+    let l = c .before .before .before .before .before .before in
+    let s = begun l in
+    lower-found _ _ _ (s .pre .0) _ _ _ (s .pre .1) (l .before .loop .inv) (l .loop-test .taken) (c .before .before .before .before .before .is-free .ensures)
+    (c .before .before .before .before .if1 .taken) (c .before .before .before .entry-at .ensures) (c .before .helps .ensures) (c .if2 .taken))
+    -- loop-less
     (λ c. search needs)
+    -- loop-again: it is not relevant
     (λ c.
-    let f = c .before .before .before in
-    let l = f .before .before .before in
-    let s = l .before .before .before .before in
-    lower-held _ _ _ (full s) (s .pre .1) _ _ _ (s .pre .0) (l .before .loop .inv) (l .loop-test .taken) (f .before .before .goal .ensures)
-    (f .helps .ensures) (c .before .before .if1 .taken) (c .before .is-free .ensures) (c .if2 .left))
+    let l = c .before .before .before .before .before .before in
+    let s = begun l in
+    lower-irrelevant _ _ _ (s .pre .0) _ _ _ (s .pre .1) (l .before .loop .inv) (l .loop-test .taken) (c .before .before .before .before .before .is-free .ensures)
+    (c .before .before .before .before .if1 .taken) (c .before .before .before .entry-at .ensures) (c .before .helps .ensures) (c .if2 .left))
+    -- loop-less-2
     (λ c. search needs)
+    -- loop-again-2: the goal is not free
     (λ c.
-    let s = c .before .before .before .before .before .before .before .before in
-    lower-irrelevant _ _ _ (full s) (s .pre .1) _ _ _ (s .pre .0) (c .before .before .before .before .before .loop .inv) (c .before .before .before .before .loop-test .taken)
-    (c .before .before .before .goal .ensures) (c .before .helps .ensures) (c .if1 .left))
-    (λ c.
-    let s = c .before .before .before .before in
-    lower-none _ _ _ (full s) (s .pre .1) _ _ _ (s .pre .0) (c .before .loop .inv) (c .loop-test .left)))
+    let l = c .before .before in
+    let s = begun l in
+    lower-held _ _ _ (s .pre .0) _ _ _ (s .pre .1) (l .before .loop .inv) (l .loop-test .taken) (c .before .is-free .ensures) (c .if1 .left))
+    -- returns-2: none is left
+    (λ c. let s = c .before .before .before .before in lower-none _ _ _ (s .pre .0) _ _ _ (s .pre .1) (c .before .loop .inv) (c .loop-test .left)))
