@@ -19,8 +19,10 @@
  *
  * There is no global state: calls may run in several threads at once, each on memory of its own; sheets may be shared.
  *
- * Stack, measured and read off the compiled code, since no proof bounds it: under 1 kB for the checks, under 32 kB for
- * hgn_replay, which does not recurse, about 330 kB for hgn_search at depth 32 (some 9 kB for each step of depth).
+ * Stack, measured and read off the compiled code, since no proof bounds it: under 1 kB for the checks, some 13 kB for
+ * hgn_replay, which does not recurse, some 105 kB for hgn_search at depth 32 (2.8 kB for each step of depth). HGN_REPLAY_STACK
+ * and HGN_SEARCH_STACK below leave room above that. A frame larger than a page is probed page by page, so that a guard page
+ * below the stack is met and not jumped over.
  *
  * A call whose shape changes (its parameters, their widths, how much it writes) gets a new symbol: its name with a number
  * behind it. The old symbol goes, and a macro of this header keeps the plain name for C. So an object that was compiled with
@@ -50,6 +52,10 @@ extern "C" {
 
 /* The bytes of a state: as many for every shop, whatever its F. */
 #define HGN_ATOMS 256
+
+/* Bytes of stack that were enough in every measurement, for hgn_replay and the checks, and for hgn_search at depth 32. */
+#define HGN_REPLAY_STACK 32768
+#define HGN_SEARCH_STACK 131072
 
 /* Words of plan that are enough for every trace. */
 #define HGN_MOST_PLAN_WORDS 4096
