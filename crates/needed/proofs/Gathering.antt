@@ -1,4 +1,4 @@
--- The list of needed moves: none, one more, and the steps that it stands for. Assumes nothing.
+-- The list of needed moves: none, one more, the steps that it stands for, and the word that no trace is accepted. Assumes nothing.
 use Prim.Native.Nat.{ℕ, suc, _+_, _-_, _≤_, _<_}
 use native.Mathlib.Omega.{arith}
 use native.Mathlib.Numerals.{add-one}
@@ -7,10 +7,10 @@ use mathlib.Core.Bool.{Bool, true, false, cond}
 use mathlib.Core.Logic.{_≢_, ⊎-elim}
 use mathlib.Core.List.{List, [], _∷_, _++_, map, map-append, List·Memᴰ, List·Memᴰ·head, List·Memᴰ·tail, List·Memᴰ·not-nil, List·Memᴰ·append-cases, List·Memᴰ·eq-of-singleton, Memᴰ·of-map}
 use mathlib.Core.Option.{none}
-use lib.Dec.{ltb}
+use lib.Dec.{eqb, ltb}
 use lib.ListN.{length, take, drop, getD, set, length-set, length-drop}
 use lib.Seq.{take-suc-set, take-set-le, drop-set-lt, drop-set-add, getD-set-same, getD-set-other, getD-take, getD-drop, length-take-le}
-use borrow.Author.Tests.{ltb-false, lt-ltb, le-ltb}
+use borrow.Author.Tests.{eqb-true, ltb-false, lt-ltb, le-ltb}
 use Rattle.hgn.specs.Meaning.{Domain}
 use Rattle.hgn.specs.State.{State, literalHolds, mostAtoms}
 use Rattle.hgn.specs.Run.{Step, Move, act, use-method, methodAt, Problem, Rules}
@@ -18,10 +18,11 @@ use Rattle.hgn.specs.Shop.{domain}
 use Rattle.hgn.specs.Replay.{rulesOf}
 use Rattle.hgn.proofs.Tests.{at-mem, at-of-lt}
 use Rattle.pruning.specs.Pruned.{prunedOf}
-use Rattle.pruning.specs.Needed.{Needed, weight, weights, Different}
-use Rattle.pruning.proofs.Counted.{none-shorter}
+use Rattle.pruning.specs.Needed.{Needed, Hopeless, weight, weights, Different}
+use Rattle.pruning.proofs.Needed.{none-makes}
+use Rattle.pruning.proofs.Counted.{none-shorter, none-hopeless}
 use Rattle.needed.specs.Tables.{indexOf, OnlyAchievers}
-use Rattle.needed.specs.Gathered.{mostGathered, mostSteps, marksAt, operatorsAt, gatheredWords, foundCount, foundSteps, markIn, operatorIn}
+use Rattle.needed.specs.Gathered.{mostGathered, mostSteps, marksAt, operatorsAt, hopelessAt, gatheredWords, foundCount, foundSteps, hopelessIn, markIn, operatorIn}
 use Rattle.needed.specs.Gathered.{moveOfOperator, found, movesFound, Holds, Wanted, WithOperator}
 
 -- One element more at the end.
@@ -57,8 +58,9 @@ same-operator d a b e = go (ltb a (length (d .actions))) (ltb b (length (d .acti
         omega (arith, ltb-false a (length (d .actions)) h, ltb-false b (length (d .actions)) k)
 
 -- Words that count no operator.
-pub nothing : (r : Rules) (P : Problem) (ws : List ℕ) → length ws ≡ gatheredWords → foundCount ws ≡ 0 → foundSteps ws ≡ 0 → Holds r P ws
-nothing r P ws size c v =
+pub nothing : (r : Rules) (P : Problem) (ws : List ℕ) → length ws ≡ gatheredWords → foundCount ws ≡ 0 → foundSteps ws ≡ 0 → hopelessIn ws ≡ 0
+    → Holds r P ws
+nothing r P ws size c v z =
     let e : found ws ≡ [] = ap (λ (n : ℕ). take n (drop operatorsAt ws)) c in record {
       size = size;
       fits = omega arith;
@@ -68,6 +70,7 @@ nothing r P ws size c v =
       different = subst (λ (l : List ℕ). Different (map (moveOfOperator (r .domain)) l)) (sym e) tt;
       steps = omega arith;
       few = omega arith;
+      hopeless = λ q. absurd (omega arith);
     }
 
 -- An operator is marked, set behind the others and counted, and its steps are added.
@@ -109,6 +112,13 @@ module _ (ws : List ℕ) (o steps : ℕ) where
     mark-kept : (p : ℕ) → p ≢ o → markIn withOperator p ≡ markIn ws p
     mark-kept p other = mark-is p room ∙ getD-set-other ws (marksAt + o) (marksAt + p) 1 0 (λ z. other (omega arith))
 
+    hopeless-kept : hopelessIn withOperator ≡ hopelessIn ws
+    hopeless-kept =
+        getD-set-other counted 1 hopelessAt (foundSteps ws + steps) 0 (λ z. omega arith)
+        ∙ getD-set-other listed 0 hopelessAt (foundCount ws + 1) 0 (λ z. omega arith)
+        ∙ getD-set-other marked (operatorsAt + foundCount ws) hopelessAt o 0 (λ z. omega arith)
+        ∙ getD-set-other ws (marksAt + o) hopelessAt 1 0 (λ z. omega arith)
+
     operators-set : drop operatorsAt withOperator ≡ set (set (drop operatorsAt ws) (mostGathered + o) 1) (foundCount ws) o
     operators-set =
         drop-set-lt operatorsAt counted 1 (foundSteps ws + steps) (omega arith)
@@ -141,7 +151,28 @@ module _ (ws : List ℕ) (o steps : ℕ) where
               (λ x i q. let r = Memᴰ·of-map (moveOfOperator d) (found ws) i in other (r .0) (r .1) (same-operator d (r .0) o (r .2 ∙ q))));
           steps = omega (arith, steps-added, h .steps, ap (weights d) f, weights-more d (movesFound d ws) (moveOfOperator d o));
           few = omega (arith, steps-added);
+          hopeless = λ q. h .hopeless (sym hopeless-kept ∙ q);
         }
+
+-- Where no trace is accepted, the words may say so.
+pub given-up : {r : Rules} {P : Problem} (ws : List ℕ) → Hopeless r P → Holds r P ws → Holds r P (set ws hopelessAt 1)
+given-up {r} ws refused h =
+    let c : foundCount (set ws hopelessAt 1) ≡ foundCount ws = getD-set-other ws hopelessAt 0 1 0 (λ z. omega arith) in
+    let s : foundSteps (set ws hopelessAt 1) ≡ foundSteps ws = getD-set-other ws hopelessAt 1 1 0 (λ z. omega arith) in
+    let f : found (set ws hopelessAt 1) ≡ found ws =
+    ap (λ (n : ℕ). take n (drop operatorsAt (set ws hopelessAt 1))) c ∙ ap (take (foundCount ws)) (drop-set-lt operatorsAt ws hopelessAt 1 (omega arith)) in
+    let old : (o : ℕ) → List·Memᴰ o (found (set ws hopelessAt 1)) → List·Memᴰ o (found ws) = λ o i. subst (List·Memᴰ o) f i in
+    record {
+      size = simp length-set (h .size);
+      fits = omega (arith, c, h .fits);
+      within = λ o i. h .within o (old o i);
+      needed = λ o i. h .needed o (old o i);
+      marks = λ o i. getD-set-other ws hopelessAt (marksAt + o) 1 0 (λ z. omega arith) ∙ h .marks o (old o i);
+      different = subst (λ (l : List ℕ). Different (map (moveOfOperator (r .domain)) l)) (sym f) (h .different);
+      steps = omega (arith, s, h .steps, ap (λ (l : List ℕ). weights (r .domain) (map (moveOfOperator (r .domain)) l)) f);
+      few = omega (arith, s, h .few);
+      hopeless = λ q. refused;
+    }
 
 -- An action as an operator.
 pub operator-action : (d : Domain) (k : ℕ) → 1 ≤ k → k ≤ length (d .actions) → moveOfOperator d (k - 1) ≡ act k
@@ -156,8 +187,8 @@ pub operator-method : (d : Domain) (b m : ℕ) → b ≡ length (d .actions) + m
 unfolding moveOfOperator
 operator-method d b m e = rw (le-ltb b (length (d .actions)) (omega arith)) (ap use-method (omega arith))
 
-module _ {ws ws′ : List ℕ} (shop : List ℕ) (P : Problem) where
-  pub method-added : (m o steps : ℕ) → o ≡ length (domain shop .actions) + m → m < length (domain shop .methods)
+module _ (shop : List ℕ) (P : Problem) where
+  pub method-added : {ws ws′ : List ℕ} (m o steps : ℕ) → o ≡ length (domain shop .actions) + m → m < length (domain shop .methods)
       → steps ≡ suc (length (methodAt (domain shop) m .nodes)) → WithOperator o steps ws ws′ → Needed (rulesOf shop) P (use-method m)
       → Holds (rulesOf shop) P ws → Holds (rulesOf shop) P ws′
   unfolding weight
@@ -165,21 +196,33 @@ module _ {ws ws′ : List ℕ} (shop : List ℕ) (P : Problem) where
       let b = operator-method (domain shop) o m e in
       add shop P (omega arith) (rw b n) (rw b (omega arith)) h
 
-  -- Where the table names an action, it is the literal's only achiever.
-  pub achiever-added : {s : State} (table : List ℕ) (atom at : ℕ) (sign : Bool) {actions : ℕ} {told : Bool}
-      → atom < mostAtoms → told ≡ literalHolds s (record { sign = sign; atom = atom }) → told ≡ false → at ≡ indexOf atom sign
-      → (getD table at 0 ≡ 0 → ⊥) → getD table at 0 ≤ actions → WithOperator (getD table at 0 - 1) 1 ws ws′
-      → P .state ≡ s → length (domain shop .actions) ≡ actions → OnlyAchievers (domain shop) table
-      → Wanted (record { sign = sign; atom = atom }) (rulesOf shop) P → Holds (rulesOf shop) P ws → Holds (rulesOf shop) P ws′
-  unfolding weight
-  achiever-added table atom at sign small held f e some known add is n only wanted h =
-      let q : getD table at 0 ≡ getD table (indexOf atom sign) 0 = ap (λ (i : ℕ). getD table i 0) e in
-      let b = operator-action (domain shop) (getD table at 0) (omega arith) (omega arith) in
-      let false-now = ap (λ (s : State). literalHolds s (record { sign = sign; atom = atom })) is ∙ sym held ∙ f in
-      add shop P (omega arith)
-      (rw b (wanted _ false-now (rw q (only (record { sign = sign; atom = atom }) small (omega arith) (omega arith)))))
-      (rw b (omega arith))
-      h
+  -- What the table has at a wanted literal that does not hold.
+  module _ {s : State} (table : List ℕ) (atom at : ℕ) (sign : Bool) {told : Bool}
+      (small : atom < mostAtoms) (held : told ≡ literalHolds s (record { sign = sign; atom = atom })) (f : told ≡ false) (e : at ≡ indexOf atom sign) where
+    -- The action that the table has is needed, since no other achieves the literal.
+    achiever-needed : getD table at 0 ≤ length (domain shop .actions) → P .state ≡ s → OnlyAchievers (domain shop) table
+        → Wanted (record { sign = sign; atom = atom }) (rulesOf shop) P → Needed (rulesOf shop) P (act (getD table at 0))
+    achiever-needed known is only wanted =
+        let q : getD table at 0 ≡ getD table (indexOf atom sign) 0 = ap (λ (i : ℕ). getD table i 0) e in
+        wanted _ (ap (λ (s : State). literalHolds s (record { sign = sign; atom = atom })) is ∙ sym held ∙ f)
+        (rw q (only (record { sign = sign; atom = atom }) small (omega arith)))
+
+    -- Where the table names an action, it is the literal's only achiever.
+    pub achiever-added : {ws ws′ : List ℕ} {actions : ℕ} → (getD table at 0 ≡ 0 → ⊥) → getD table at 0 ≤ actions → WithOperator (getD table at 0 - 1) 1 ws ws′
+        → P .state ≡ s → length (domain shop .actions) ≡ actions → OnlyAchievers (domain shop) table
+        → Wanted (record { sign = sign; atom = atom }) (rulesOf shop) P → Holds (rulesOf shop) P ws → Holds (rulesOf shop) P ws′
+    unfolding weight
+    achiever-added some known add is n only wanted h =
+        let b = operator-action (domain shop) (getD table at 0) (omega arith) (omega arith) in
+        add shop P (omega arith) (rw b (achiever-needed (omega arith) is only wanted)) (rw b (omega arith)) h
+
+    -- Where the table has 0, no action achieves the literal, and no trace is accepted.
+    pub achiever-none : {ws ws′ : List ℕ} → getD table at 0 ≡ 0 → ws′ ≡ set ws hopelessAt 1 → P .state ≡ s → OnlyAchievers (domain shop) table
+        → Wanted (record { sign = sign; atom = atom }) (rulesOf shop) P → Holds (rulesOf shop) P ws → Holds (rulesOf shop) P ws′
+    achiever-none {ws} z now is only wanted h =
+        subst (Holds (rulesOf shop) P) (sym now)
+        (given-up ws
+        (none-makes (rulesOf shop) P (subst (λ (k : ℕ). Needed (rulesOf shop) P (act k)) z (achiever-needed (omega arith) is only wanted))) h)
 
 -- What the words say of the operator at a place.
 module _ {r : Rules} {P : Problem} {ws : List ℕ} (h : Holds r P ws) (i : ℕ) (b : i < foundCount ws) where
@@ -203,3 +246,8 @@ least-found {r} {P} {ws} h n k e b =
   where
     needed : (m : Move) → List·Memᴰ m (movesFound (r .domain) ws) → Needed r P m
     needed m i = let f = Memᴰ·of-map (moveOfOperator (r .domain)) (found ws) i in subst (Needed r P) (f .2) (h .needed (f .0) (f .1))
+
+-- No search finds a trace where the words say that none is accepted.
+pub least-none : {r : Rules} {P : Problem} {ws : List ℕ} → Holds r P ws → {told : Bool} → told ≡ eqb (hopelessIn ws) 1 → told ≡ true
+    → (k : ℕ) (P₀ : Problem) (y : Step) (t : ℕ) → prunedOf k r P₀ y t P ≡ none
+least-none {r} {P} h p q = none-hopeless r P (h .hopeless (eqb-true _ _ (sym p ∙ q)))

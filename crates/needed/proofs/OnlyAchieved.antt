@@ -193,6 +193,6 @@ module _ {shop order tables : List ℕ} (ix : Indexed shop order tables) {n : �
       ∙ ap (λ (ls : List Literal). noted (n + 1) ls table) (effects-are shop order (n + 1) rows is))
 
   pub achievers-all : actionCount shop ≤ n → OnlyAchievers (domain shop) table
-  achievers-all h l s p q j a b c =
+  achievers-all h l s q j a b c =
       m .only l j s a (omega (arith, shop-counts shop (shop-passes ix) .0)) c
       (omega (arith, shop-counts shop (shop-passes ix) .0, shop-actions shop (shop-passes ix)))

@@ -1,5 +1,5 @@
--- The needed moves found so far, as words: how many, their steps, the operators in the order in which they were found, and a mark for
--- each operator of the shop sheet. No reader needs to trust this page: a statement of `pruning` says what the bound is for.
+-- The needed moves found so far, as words: how many, their steps, whether no trace is accepted at all, the operators in the order in which
+-- they were found, and a mark for each operator of the shop sheet. No reader needs to trust this page: a statement of `pruning` says what the bound is for.
 use Prim.Native.Nat.{ℕ, suc, _+_, _-_, _≤_, _<_}
 use mathlib.Core.Path.{_≡_}
 use mathlib.Core.Bool.{false, cond}
@@ -11,7 +11,7 @@ use Rattle.hgn.specs.Shop.{domain, mostActions, mostMethods}
 use Rattle.hgn.specs.State.{State, literalHolds}
 use Rattle.hgn.specs.Run.{Move, act, use-method, Problem, Rules}
 use Rattle.hgn.specs.Replay.{rulesOf}
-use Rattle.pruning.specs.Needed.{Needed, OnlyMaker, InEvery, weight, weights, Different}
+use Rattle.pruning.specs.Needed.{Needed, Hopeless, OnlyMaker, InEvery, weight, weights, Different}
 use Rattle.needed.specs.Tables.{OnlyAchievers}
 
 -- The most operators that are gathered, and the most steps that they are said to take: more are left out, since fewer moves are needed too.
@@ -21,9 +21,12 @@ mostGathered = mostActions + mostMethods
 abbrev pub mostSteps : ℕ
 mostSteps = 60000
 
--- Where the operators begin, and where the marks do.
+-- Where it is said that no trace is accepted, where the operators begin, and where the marks do.
+abbrev pub hopelessAt : ℕ
+hopelessAt = 2
+
 abbrev pub operatorsAt : ℕ
-operatorsAt = 2
+operatorsAt = 3
 
 abbrev pub marksAt : ℕ
 marksAt = operatorsAt + mostGathered
@@ -36,6 +39,10 @@ foundCount ws = getD ws 0 0
 
 abbrev pub foundSteps : List ℕ → ℕ
 foundSteps ws = getD ws 1 0
+
+-- 1 where a wanted literal is achieved by no action.
+abbrev pub hopelessIn : List ℕ → ℕ
+hopelessIn ws = getD ws hopelessAt 0
 
 -- The operator that was found as number `i`, from 0.
 abbrev pub operatorIn : List ℕ → ℕ → ℕ
@@ -56,7 +63,8 @@ moveOfOperator d o = cond (ltb o (length (d .actions))) (act (suc o)) (use-metho
 abbrev pub movesFound : Domain → List ℕ → List Move
 movesFound d ws = map (moveOfOperator d) (found ws)
 
--- The moves found are needed, different and marked, and their steps are at most those that they take together.
+-- The moves found are needed, different and marked, and their steps are at most those that they take together. Where the words say so, no
+-- trace is accepted.
 pub record Holds (r : Rules) (P : Problem) (ws : List ℕ) : Type 0 where
   pub size : length ws ≡ gatheredWords
   pub fits : foundCount ws ≤ mostGathered
@@ -66,8 +74,10 @@ pub record Holds (r : Rules) (P : Problem) (ws : List ℕ) : Type 0 where
   pub different : Different (movesFound (r .domain) ws)
   pub steps : foundSteps ws ≤ weights (r .domain) (movesFound (r .domain) ws)
   pub few : foundSteps ws ≤ mostSteps
+  pub hopeless : hopelessIn ws ≡ 1 → Hopeless r P
 
--- The literal holds at some time in every accepted trace: where it does not at first, its only achiever is needed.
+-- The literal holds at some time in every accepted trace: where it does not at first, its only achiever is needed, and with no achiever
+-- (`k` is 0) no trace is accepted.
 abbrev pub Wanted : Literal → Rules → Problem → Type 0
 Wanted l r P = (k : ℕ) → literalHolds (P .state) l ≡ false → OnlyMaker (r .domain) l k → Needed r P (act k)
 

@@ -23,9 +23,9 @@ achieversWords = 2 * mostAtoms
 abbrev pub indexOf : ℕ → Bool → ℕ
 indexOf atom sign = 2 * atom + cond sign 1 0
 
--- Where the table names an action, no other achieves the literal.
+-- Where the table names an action, no other achieves the literal; where it has 0, which is no action's number, none does.
 abbrev pub OnlyAchievers : Domain → List ℕ → Type 0
-OnlyAchievers d table = (l : Literal) → l .atom < mostAtoms → 1 ≤ getD table (indexOf (l .atom) (l .sign)) 0
+OnlyAchievers d table = (l : Literal) → l .atom < mostAtoms
     → getD table (indexOf (l .atom) (l .sign)) 0 ≤ length (d .actions) → OnlyMaker d l (getD table (indexOf (l .atom) (l .sign)) 0)
 
 -- The operator is an action or a method of indexed sheets, and the table is their shop sheet's.

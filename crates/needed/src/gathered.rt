@@ -1,10 +1,11 @@
-// The needed moves found so far, as words of one array, worked where it stands: how many, their steps, the operators that were gathered,
-// and a mark for each operator of the shop sheet. Operator k is action k + 1, and the methods follow the actions.
+// The needed moves found so far, as words of one array, worked where it stands: how many, their steps, whether no trace is accepted at all,
+// the operators that were gathered, and a mark for each operator of the shop sheet. Operator k is action k + 1, and the methods follow the actions.
 use sheets::check::Shop;
 ghost use mathlib.Core.Path.{_≡_};
 ghost use Prim.Native.Nat.{_<_};
 ghost use lib.Dec.{eqb};
-ghost use Rattle.needed.specs.Gathered.{mostGathered, foundCount, foundSteps, markIn, operatorIn, WithOperator};
+ghost use lib.ListN.{set};
+ghost use Rattle.needed.specs.Gathered.{mostGathered, hopelessAt, foundCount, foundSteps, hopelessIn, markIn, operatorIn, WithOperator};
 
 pub struct Gathered {}
 
@@ -15,8 +16,10 @@ impl Gathered {
     const COUNT: usize = 0;
 
     const STEPS: usize = 1;
+    // The word that is 1 where a wanted literal is achieved by no action, so that no trace is accepted.
+    const HOPELESS: usize = 2;
     // Where the operators that are gathered begin, a word for each, in the order in which they were found.
-    const OPERATORS: usize = 2;
+    const OPERATORS: usize = 3;
     // Where the marks begin, a word for each operator of the sheet: 1 where it is gathered.
     const MARKS: usize = Self::OPERATORS + Self::MOST as usize;
 
@@ -39,6 +42,20 @@ pub fn steps_of(gathered: &[u16; Gathered::WORDS]) -> u16
     ensures { λ r. ⌜ r ≡ foundSteps (now (gathered .entry)) ⌝ }
 {
     gathered[Gathered::STEPS]
+}
+
+// No trace is accepted, since a wanted literal is achieved by no action.
+pub fn is_hopeless(gathered: &[u16; Gathered::WORDS]) -> bool
+    ensures { λ r. ⌜ r ≡ eqb (hopelessIn (now (gathered .entry))) 1 ⌝ }
+{
+    gathered[Gathered::HOPELESS] == 1
+}
+
+// The words now say that no trace is accepted.
+pub fn give_up(gathered: &mut [u16; Gathered::WORDS])
+    ensures { λ _. ⌜ now (gathered .exit) ≡ set (now (gathered .entry)) hopelessAt 1 ⌝ }
+{
+    gathered[Gathered::HOPELESS] = 1;
 }
 
 // The operator that was found as number `at`, from 0.

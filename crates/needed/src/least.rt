@@ -43,7 +43,7 @@ pub struct LiteralTags {
     pub negative: u16,
 }
 
-// The only action that achieves a literal is added, if the literal does not hold.
+// The only action that achieves a literal is added, if the literal does not hold. Where no action achieves it, no trace is accepted.
 fn add_achiever(
     gathered: &mut [u16; Gathered::WORDS],
     atoms: &[bool; Shop::MOST_ATOMS as usize],
@@ -64,6 +64,7 @@ fn add_achiever(
     let at = achievers::index_of(literal);
     let action = table[at];
     if action == 0 {
+        gathered::give_up(gathered);
         return;
     }
     if actions < action {
@@ -290,7 +291,7 @@ fn add_method<'a>(
     gathered::add(gathered, actions + method, 1 + nodes.count);
 }
 
-// What every gathered operator brings with it is added, also for those that are added on the way.
+// What every gathered operator brings with it is added, also for those that are added on the way. It ends early where no trace is accepted.
 fn close<'a>(
     gathered: &mut [u16; Gathered::WORDS],
     shop: &'a [u16],
@@ -307,6 +308,9 @@ fn close<'a>(
 {
     let mut at: u16 = 0;
     while at < gathered::count_of(gathered) {
+        if gathered::is_hopeless(gathered) {
+            return;
+        }
         let operator = gathered::operator_at(gathered, at);
         at += 1;
         add_needs(gathered, shop, order, tables, atoms, table, operator);
@@ -315,7 +319,11 @@ fn close<'a>(
     }
 }
 
-// No accepted trace has fewer steps: a release for each goal that waits, and what the needed moves take.
+// Stands for the number of steps where no trace is accepted: it is more than any trace has.
+pub const NONE: u16 = u16::MAX;
+
+// No accepted trace has fewer steps: a release for each goal that waits, and what the needed moves take. The number is `NONE` where a literal
+// that every accepted trace makes true is achieved by no action.
 pub fn at_least<'a>(
     shop: &'a [u16],
     order: &'a [u16],
@@ -340,5 +348,8 @@ pub fn at_least<'a>(
         goals,
     );
     close(&mut gathered, shop, order, tables, atoms, table, goals);
+    if gathered::is_hopeless(&gathered) {
+        return NONE;
+    }
     goals::count_of(goals) + gathered::steps_of(&gathered)
 }

@@ -88,7 +88,7 @@ enter-formulas o parent i j (n ∷ m ∷ ns) = ap {B = List Formula} (λ fs. n .
 
 module _ (d : Domain) where
   -- A move that reads as an action is one of the domain's.
-  action-known : (k j : ℕ) → moveOf d k ≡ act j → (1 ≤ j) × (j ≤ length (d .actions))
+  pub action-known : (k j : ℕ) → moveOf d k ≡ act j → (1 ≤ j) × (j ≤ length (d .actions))
   action-known k j e = known (subst (Reads d k) e (reads d k))
     where
       known : {k j : ℕ} → Reads d k (act j) → (1 ≤ j) × (j ≤ length (d .actions))

@@ -1,4 +1,5 @@
--- The steps of an accepted trace, counted by their moves; so moves that are needed are a least number of steps. Assumes nothing.
+-- The steps of an accepted trace, counted by their moves; so moves that are needed are a least number of steps, below which a search finds
+-- nothing. Assumes nothing.
 use Prim.Native.Nat.{ℕ, suc, _+_, _≤_, _<_}
 use native.Mathlib.Omega.{arith}
 use mathlib.Core.Path.{_≡_, refl, sym, ap, _∙_}
@@ -19,7 +20,7 @@ use Rattle.hgn.proofs.Runs.{ended-empty, resumes}
 use Rattle.hgn.proofs.Pruning.{kept-sound}
 use Rattle.pruning.specs.Rules.{leftOut}
 use Rattle.pruning.specs.Pruned.{prunedOf}
-use Rattle.pruning.specs.Needed.{Needed, weight, weights, Different}
+use Rattle.pruning.specs.Needed.{Needed, Hopeless, weight, weights, Different}
 use Rattle.pruning.proofs.Places.{suits, into, problem, did}
 use Rattle.pruning.proofs.Pruned.{pruned-is-kept}
 
@@ -75,6 +76,22 @@ module _ (d : Domain) where
       let rest = weights-at-most ms (r .0) (h .1) (λ x i. r .2 x (c x (List·Memᴰ·tail i)) (h .0 x i)) in
       omega (arith, r .1, rest)
 
+-- A search of so many steps finds nothing where no list of so many is accepted: what it finds would be one.
+none-found : (r : Rules) (P : Problem) (k : ℕ)
+    → ((n : ℕ) (xs : List Step) (deeds : List Deed) (last : State) → run r n P xs ≡ accepted deeds last → length xs ≡ k → ⊥)
+    → (P₀ : Problem) (y : Step) (n : ℕ) → prunedOf k r P₀ y n P ≡ none
+none-found r P k h P₀ y n = go (prunedOf k r P₀ y n P) refl
+  where
+    go : (o : Option (List Step)) → prunedOf k r P₀ y n P ≡ o → o ≡ none
+    go none e = refl
+    go (some xs) e =
+        let f = kept-sound (leftOut r) r k P₀ y n P xs (sym (pruned-is-kept k r P₀ y n P) ∙ e) in
+        absurd (h n xs (f .0 .0) (f .0 .1) (f .0 .2) (f .1))
+
+-- A search finds nothing where no list of steps is accepted.
+pub none-hopeless : (r : Rules) (P : Problem) → Hopeless r P → (k : ℕ) (P₀ : Problem) (y : Step) (n : ℕ) → prunedOf k r P₀ y n P ≡ none
+none-hopeless r P h k = none-found r P k (λ n xs deeds last e q. h n xs deeds last e)
+
 module _ (r : Rules) (P : Problem) (ms : List Move) (h : Different ms) (c : (m : Move) → List·Memᴰ m ms → Needed r P m) where
   pub at-least : (n : ℕ) (xs : List Step) (deeds : List Deed) (last : State) → run r n P xs ≡ accepted deeds last
       → length (P .waiting) + weights (r .domain) ms ≤ length xs
@@ -85,10 +102,4 @@ module _ (r : Rules) (P : Problem) (ms : List Move) (h : Different ms) (c : (m :
 
   -- A search of fewer steps finds nothing.
   pub none-shorter : (k : ℕ) → k < length (P .waiting) + weights (r .domain) ms → (P₀ : Problem) (y : Step) (n : ℕ) → prunedOf k r P₀ y n P ≡ none
-  none-shorter k l P₀ y n = go (prunedOf k r P₀ y n P) refl
-    where
-      go : (o : Option (List Step)) → prunedOf k r P₀ y n P ≡ o → o ≡ none
-      go none e = refl
-      go (some xs) e =
-          let f = kept-sound (leftOut r) r k P₀ y n P xs (sym (pruned-is-kept k r P₀ y n P) ∙ e) in
-          absurd (omega (arith, at-least n xs (f .0 .0) (f .0 .1) (f .0 .2), f .1))
+  none-shorter k l = none-found r P k (λ n xs deeds last e q. omega (arith, at-least n xs deeds last e))

@@ -1,6 +1,8 @@
 -- The ways in which a move is needed: a literal that must hold and does not at first takes its only maker, and an action that may be
--- taken for no goal at first takes the only method that brings in one for which it may. Assumes nothing.
+-- taken for no goal at first takes the only method that brings in one for which it may. Where no action makes such a literal, no trace is
+-- accepted. Assumes nothing.
 use Prim.Native.Nat.{ℕ, suc, _<_}
+use native.Mathlib.Omega.{arith}
 use mathlib.Core.Path.{_≡_, refl, ap, _∙_, subst}
 use mathlib.Core.Bool.{Bool, true, false}
 use mathlib.Core.Logic.{⊎-elim}
@@ -19,8 +21,8 @@ use Rattle.hgn.proofs.Steps.{Moved, by-release, by-action, by-method, took}
 use Rattle.hgn.proofs.Moves.{method-known}
 use Rattle.hgn.proofs.Waiting.{released-mem, inserted-cases}
 use Rattle.hgn.proofs.Best.{Runs, runs-head}
-use Rattle.pruning.specs.Needed.{Makes, Needed, needsOf, OnlyMaker, nodeIn, OnlyMethod, InEvery}
-use Rattle.pruning.proofs.Comes.{enter-formulas, makes-later, makes-cases, comes-made, goal-comes, move-comes, need-comes, node-comes}
+use Rattle.pruning.specs.Needed.{Makes, Needed, Hopeless, needsOf, OnlyMaker, nodeIn, OnlyMethod, InEvery}
+use Rattle.pruning.proofs.Comes.{enter-formulas, action-known, makes-later, makes-cases, comes-made, goal-comes, move-comes, need-comes, node-comes}
 
 module _ (r : Rules) where
   -- The action may be taken for none of the goals.
@@ -95,3 +97,7 @@ module _ (r : Rules) where
         → ((g : Waiting) → List·Memᴰ g (P .waiting) → r .mayAct (actionAt (r .domain) k) (g .formula) ≡ false)
         → OnlyMethod r k m → Needed r P (use-method m)
     needed-by-relevance k m h v o n xs deeds last e = method-made k m o n P xs (deeds, last, e) v (h n xs deeds last e)
+
+    -- Where action 0 is needed no trace is accepted, since actions are counted from 1. It is the only maker of a literal that no action makes.
+    pub none-makes : Needed r P (act 0) → Hopeless r P
+    none-makes h n xs deeds last e = let m = h n xs deeds last e in omega (arith, action-known (r .domain) (m .0 .move) 0 (m .2) .0)

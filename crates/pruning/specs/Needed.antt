@@ -1,5 +1,5 @@
--- Moves that every accepted trace makes, and so the least number of its steps: where a search may begin. `proofs/` has a lemma for each
--- way in which a move is needed, so no reader needs to trust this.
+-- Moves that every accepted trace makes, and so the least number of its steps, where a search may begin; and when no trace is accepted.
+-- `proofs/` has a lemma for each way in which a move is needed, so no reader needs to trust this.
 use Prim.Native.Nat.{ℕ, suc, _+_, _≤_}
 use mathlib.Core.Path.{_≡_}
 use mathlib.Core.Bool.{true}
@@ -18,6 +18,10 @@ Makes d xs m = (x : Step) × List·Memᴰ x xs × (moveOf d (x .move) ≡ m)
 abbrev pub Needed : Rules → Problem → Move → Type 0
 Needed r P m = (n : ℕ) (xs : List Step) (deeds : List Deed) (last : State) → run r n P xs ≡ accepted deeds last → Makes (r .domain) xs m
 
+-- No list of steps is accepted from the problem.
+abbrev pub Hopeless : Rules → Problem → Type 0
+Hopeless r P = (n : ℕ) (xs : List Step) (deeds : List Deed) (last : State) → run r n P xs ≡ accepted deeds last → ⊥
+
 -- What a move needs of the state.
 abbrev pub needsOf : Domain → Move → List Literal
 needsOf d release = []
@@ -25,7 +29,7 @@ needsOf d (act k) = actionAt d k .needs
 needsOf d (use-method m) = methodAt d m .needs
 needsOf d unknown = []
 
--- No action but `k` makes the literal.
+-- No action but `k` makes the literal. Actions are counted from 1: where `k` is 0, none does.
 abbrev pub OnlyMaker : Domain → Literal → ℕ → Type 0
 OnlyMaker d l k = (j : ℕ) → 1 ≤ j → j ≤ length (d .actions) → contains (actionAt d j .effects) l ≡ true → j ≡ k
 

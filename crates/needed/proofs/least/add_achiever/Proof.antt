@@ -1,6 +1,6 @@
--- Where the table names an action, it is the literal's only achiever. Assumes nothing.
+-- Where the table names an action, it is the literal's only achiever; where it has 0, there is none. Assumes nothing.
 use borrow.Author.Needs.{needs}
-use Rattle.needed.proofs.Gathering.{achiever-added}
+use Rattle.needed.proofs.Gathering.{achiever-added, achiever-none}
 use Rattle.needed.proofs.least.add_achiever.Statement.{statement}
 use Rattle.needed.proofs.least.add_achiever.Tie as tie
 
@@ -20,8 +20,15 @@ add-achiever-spec =
     (λ c. search needs)
     -- element-copy-out-action
     (λ c. search needs)
+    -- give-up-requires
+    (λ c κs. search needs)
     -- returns-3
-    (λ c shop P is e o h k. k)
+    (λ c shop P is e o h k.
+    let i = c .before .before .before .before in
+    let t = i .before .before in
+    let s = t .before .before .before .before in
+    achiever-none shop P (s .args .table .now) _ _ _ (t .before .if1 .left) (t .holds .ensures) (i .before .if2 .left) (i .index-of .ensures .0)
+    (c .before .before .if3 .taken) (c .give-up .ensures) is o h k)
     -- returns-4
     (λ c shop P is e o h k. k)
     -- sub-add

@@ -1,4 +1,4 @@
--- A trace has a step for each waiting goal and those of the needed moves. Assumes nothing.
+-- A trace has a step for each waiting goal and those of the needed moves, unless none is accepted. Assumes nothing.
 use Prim.Native.Nat.{ℕ}
 use native.Mathlib.Omega.{arith}
 use mathlib.Core.Path.{refl, sym, _∙_}
@@ -8,7 +8,7 @@ use Rattle.hgn.proofs.Checked.{shop-counts}
 use Rattle.spans.proofs.Tables.{shop-passes}
 use Rattle.network.proofs.WaitingGoals.{list-length}
 use Rattle.needed.specs.Gathered.{gatheredWords}
-use Rattle.needed.proofs.Gathering.{nothing, least-found}
+use Rattle.needed.proofs.Gathering.{nothing, least-found, least-none}
 use Rattle.needed.proofs.least.at_least.Statement.{statement}
 use Rattle.needed.proofs.least.at_least.Tie as tie
 
@@ -27,19 +27,24 @@ at-least-spec =
       (
         s .pre .2,
         c .before .add-goals .ensures _ (shop-counts _ (shop-passes (s .pre .0)) .0 ∙ sym (c .before .before .before .of .ensures .actions)) (s .pre .1)
-            (nothing _ _ _ (length-replicate {A = ℕ} gatheredWords 0) refl refl),
+            (nothing _ _ _ (length-replicate {A = ℕ} gatheredWords 0) refl refl refl),
       ),
     ))
+    -- is-hopeless-requires
+    (λ c κs. search needs)
+    -- returns
+    (λ c k b. least-none (c .before .before .before .close .ensures) (c .before .is-hopeless .ensures) (c .if1 .taken) k)
     -- count-of-requires
     (λ c κs. search needs)
     -- steps-of-requires
     (λ c κs. search needs)
     -- add-result
     (λ c.
-    let r = c .before .before .before in
+    let r = c .before .before .before .before .before .before in
     let s = r .before .before .before .before .before .before .before .before in
     omega (arith, c .steps-of .ensures, r .close .ensures .few, c .before .before .count-of .ensures, s .pre .2 .few))
-    -- returns
+    -- returns-2
     (λ c k b.
-    let g = c .before .before .count-of in
-    least-found (c .before .before .before .close .ensures) (g .result) k (g .ensures ∙ sym (list-length _ _ _)) (omega (arith, c .steps-of .ensures))))
+    let n = c .before .before in
+    let g = n .count-of in
+    least-found (n .before .before .before .before .close .ensures) (g .result) k (g .ensures ∙ sym (list-length _ _ _)) (omega (arith, c .steps-of .ensures))))

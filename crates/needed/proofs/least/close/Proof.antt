@@ -25,7 +25,7 @@ abbrev μ-loop : tie.MeasureT-loop
 -- A turn: the operator at `at` is read.
 module _ (c : tie.After-operator-at Inv-loop μ-loop) where
   abbrev turn : tie.At-loop Inv-loop μ-loop
-  turn = c .before .before .before .before .before
+  turn = c .before .before .before .before .before .before .before .before
 
   abbrev start : tie.Start Inv-loop μ-loop
   start = turn .before .before .before .before
@@ -34,7 +34,7 @@ module _ (c : tie.After-operator-at Inv-loop μ-loop) where
   problem = problemWith (start .args .shop .now) (start .args .order .now) (start .args .atoms .now) (start .args .goals .now)
 
   inside : turn .loop .at < foundCount (turn .loop .gathered)
-  inside = omega (arith, c .before .before .if1 .taken, c .before .before .before .count-of .ensures)
+  inside = let i = c .before .before .before .before .before in omega (arith, i .if1 .taken, i .before .count-of .ensures)
 
   operator-of : OperatorOf (start .args .shop .now) (start .args .order .now) (start .args .tables .now) (start .args .table .now) (c .operator-at .result)
   operator-of = record {
@@ -58,10 +58,14 @@ close-spec =
     (λ c. c .before .before .before .pre .1 .1)
     -- count-of-requires
     (λ c κs. search needs)
+    -- is-hopeless-requires
+    (λ c κs. search needs)
+    -- returns
+    (λ c. c .before .before .before .before .before .before .loop .inv)
     -- operator-at-requires
-    (λ c κs. omega (arith, c .before .if1 .taken, c .before .before .count-of .ensures, c .before .before .before .before .loop .inv .fits))
+    (λ c κs. let i = c .before .before .before .before in omega (arith, i .if1 .taken, i .before .count-of .ensures, i .before .before .before .loop .inv .fits))
     -- add-at
-    (λ c. omega (arith, c .before .before .if1 .taken, c .before .before .before .count-of .ensures, c .before .before .before .before .before .loop .inv .fits))
+    (λ c. omega (arith, inside c, turn c .loop .inv .fits))
     -- add-needs-requires
     (λ c κs. operator-of (c .before))
     -- add-nodes-requires
@@ -74,5 +78,5 @@ close-spec =
     (λ c.
     let o = c .before .before .before .before .before .before in
     c .add-method .ensures _ (needed o) (c .before .before .add-nodes .ensures _ refl (needed o) (c .before .before .before .before .add-needs .ensures _ refl (needed o) (turn o .loop .inv))))
-    -- returns
+    -- returns-2
     (λ c. c .before .before .before .loop .inv))
