@@ -18,7 +18,7 @@ use Rattle.hgn.proofs.Searches.{search-refused, search-passed, sheets-refused, 
 use Rattle.reading.specs.Refusals.{refusalOf}
 use Rattle.reading.specs.declared.refusal.Refusal.{Refusal}
 use Rattle.search.specs.Founds.{searchedOf, shortestOf, traceOf}
-use Rattle.search.specs.declared.call.Shortest.{Shortest}
+use Rattle.search.specs.declared.shortest.Shortest.{Shortest}
 use Rattle.search.proofs.Traces.{steps-length, trace-is}
 
 module _ (shop sheet : List ℕ) (depth : ℕ) (room : List ℕ) where

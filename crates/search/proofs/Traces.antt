@@ -11,7 +11,7 @@ use Rattle.hgn.specs.Run.{Step}
 use Rattle.hgn.specs.Trace.{step, traceWords}
 use Rattle.search.specs.Founds.{stepsFrom, traceOf}
 use Rattle.search.specs.declared.found.Found.{Found}
-use Rattle.search.specs.declared.call.Shortest.{Shortest}
+use Rattle.search.specs.declared.shortest.Shortest.{Shortest}
 
 module _ {A : Type 0} where
   drop-set : (l : List A) (n : ℕ) (a : A) → n < length l → drop n (set l n a) ≡ a ∷ drop (suc n) l

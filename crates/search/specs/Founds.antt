@@ -12,7 +12,7 @@ use Rattle.hgn.specs.Search.{Searched}
 use Rattle.reading.specs.Refusals.{refusalOf}
 use Rattle.reading.specs.declared.refusal.Refusal.{Refusal}
 use Rattle.search.specs.declared.found.Found.{Found}
-use Rattle.search.specs.declared.call.Shortest.{Shortest}
+use Rattle.search.specs.declared.shortest.Shortest.{Shortest}
 
 -- The answer and the room at exit.
 abbrev pub searchedOf : Refusal → List ℕ → Searched

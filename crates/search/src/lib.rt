@@ -3,4 +3,5 @@
 pub mod call;
 pub mod explore;
 pub mod found;
+pub mod shortest;
 pub mod trial;

@@ -6,7 +6,7 @@ use mathlib.Core.List.{List}
 use lib.ListN.{length, set, length-set, length-map}
 use lib.Seq.{paste, length-paste}
 use borrow.Author.Needs.{needs}
-use Rattle.search.specs.declared.call.Shortest.{Shortest}
+use Rattle.search.specs.declared.shortest.Shortest.{Shortest}
 use Rattle.search.proofs.Traces.{trace-written}
 use Rattle.search.proofs.call.write_trace.Statement.{statement}
 use Rattle.search.proofs.call.write_trace.Tie as tie

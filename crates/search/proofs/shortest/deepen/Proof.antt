@@ -14,10 +14,10 @@ use Rattle.reasons.specs.Tests.{stepOf}
 use Rattle.search.specs.Founds.{foundOf, shortestOf, Finds}
 use Rattle.search.specs.Trials.{firstNode, Stands}
 use Rattle.search.specs.declared.explore.Node.{Node}
-use Rattle.search.specs.declared.call.Shortest.{Shortest}
+use Rattle.search.specs.declared.shortest.Shortest.{Shortest}
 use Rattle.search.proofs.Depths.{NoneBelow, atDepth, finds-is, none-from, found-first, none-yet, none-found, none-longer}
-use Rattle.search.proofs.call.deepen.Statement.{statement}
-use Rattle.search.proofs.call.deepen.Tie as tie
+use Rattle.search.proofs.shortest.deepen.Statement.{statement}
+use Rattle.search.proofs.shortest.deepen.Tie as tie
 
 abbrev Inv-loop : tie.InvT-loop
 Inv-loop shop order tables table atoms goals depth left₀ left = NoneBelow depth (rulesOf shop) (problemWith shop order atoms goals) left

@@ -10,8 +10,8 @@ use Rattle.hgn.specs.Replay.{rulesOf}
 use Rattle.pruning.specs.Pruned.{prunedShortest}
 use Rattle.pruning.proofs.Pruned.{pruned-searched}
 use Rattle.replay.proofs.TakenSteps.{going-first}
-use Rattle.search.proofs.call.search_indexed.Statement.{statement}
-use Rattle.search.proofs.call.search_indexed.Tie as tie
+use Rattle.search.proofs.shortest.search_indexed.Statement.{statement}
+use Rattle.search.proofs.shortest.search_indexed.Tie as tie
 
 pub search-indexed-spec : {M : Type 1} → statement M
 search-indexed-spec =
