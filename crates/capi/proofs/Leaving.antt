@@ -6,7 +6,7 @@ use Rattle.hgn.specs.Replay.{Replayed}
 use Rattle.hgn.specs.Search.{Searched}
 use Rattle.replay.specs.declared.answer.Answer.{Answer}
 use Rattle.replay.specs.Answers.{replayedOf}
-use Rattle.reading.specs.declared.refusal.Refusal.{Refusal}
+use Rattle.sheet_rows.specs.declared.refusal.Refusal.{Refusal}
 use Rattle.search.specs.Founds.{searchedOf}
 use Rattle.capi.specs.Words.{refusalWords, answerWords, stateBytes, ReplayLeft, SearchLeft}
 

@@ -2,8 +2,8 @@
 // "Questions". `include/liropuva.h` declares them.
 use replay::call::replay;
 use search::call::search;
-use sheets::check;
-use sheets::check::Shop;
+use sheet_check::check;
+use sheet_check::check::Shop;
 ghost use mathlib.Core.Path.{_≡_};
 ghost use Rattle.hgn.specs.Shop.{checkShop};
 ghost use Rattle.hgn.specs.Order.{checkOrder};

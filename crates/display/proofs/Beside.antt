@@ -31,15 +31,15 @@ use denote.Struct.Laws as LL
 use denote.Triple.Walked.{Stay, stay-none, stay-none-slice, Goes, goes-none, goes-none-slice}
 use denote.Exit.{yes}
 use Rattle.hgn.specs.Run.{Step}
-use Rattle.spans.specs.Tables.{Indexed}
-use Rattle.reading.specs.declared.refusal.Refusal.{Refusal}
-use Rattle.steps.specs.declared.problem.Problem.{Problem}
-use Rattle.steps.specs.declared.taking.Step as Code
-use Rattle.steps.specs.Taking.{Going}
-use Rattle.steps.proofs.problem.Problem as P
-use Rattle.steps.proofs.problem.Problem.Laws as P′
-use Rattle.steps.proofs.taking.Step as X
-use Rattle.steps.proofs.taking.Step.Laws as X′
+use Rattle.sheet_index.specs.Tables.{Indexed}
+use Rattle.sheet_rows.specs.declared.refusal.Refusal.{Refusal}
+use Rattle.step.specs.declared.problem.Problem.{Problem}
+use Rattle.step.specs.declared.taking.Step as Code
+use Rattle.step.specs.Taking.{Going}
+use Rattle.step.proofs.problem.Problem as P
+use Rattle.step.proofs.problem.Problem.Laws as P′
+use Rattle.step.proofs.taking.Step as X
+use Rattle.step.proofs.taking.Step.Laws as X′
 use Rattle.network.specs.Entries.{orderOrigin}
 use Rattle.display.specs.Forward.{Forward}
 

@@ -21,9 +21,9 @@ use denote.Lend.{LentRef, lends-ref, ref-back}
 use denote.Steps.{owned, facts}
 use denote.Struct.Steps.{spelt}
 use denote.Struct.Laws as LL
-use Rattle.steps.specs.declared.problem.Problem.{Problem}
-use Rattle.steps.proofs.problem.Problem as P
-use Rattle.steps.proofs.problem.Problem.Laws as P′
+use Rattle.step.specs.declared.problem.Problem.{Problem}
+use Rattle.step.proofs.problem.Problem as P
+use Rattle.step.proofs.problem.Problem.Laws as P′
 
 module _ {M : Type 1} (𝓤 : URA M) (H : Heap 𝓤) (A : Atoms 𝓤) (W : Given 𝓤 H A) (ν l : ℕ) where
   pub lends : (h : Problem) (v : Val) → Is P.the-row h (v ∷ []) → ent 𝓤 (H .at fullShare P′.mir l 0 v) (H .⇛ (ex 𝓤 (LentRef 𝓤 H A W P.the-row (named 0) (ν ∷ []) h l 0)))

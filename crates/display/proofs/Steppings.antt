@@ -23,10 +23,10 @@ use Rattle.hgn.proofs.Runs.{resumed, run-cons}
 use Rattle.hgn.proofs.Replayed.{inputs-passed, replay-passed}
 use Rattle.hgn.proofs.Reached.{one-more}
 use Rattle.hgn.proofs.Traces.{trace-sizes}
-use Rattle.spans.proofs.Spans.{by-test}
-use Rattle.steps.specs.Steps.{problemIn, Comes}
-use Rattle.steps.specs.declared.problem.Problem.{Problem}
-use Rattle.steps.proofs.Taken.{going-taken, going-refused}
+use Rattle.sheet_index.proofs.Spans.{by-test}
+use Rattle.step.specs.Steps.{problemIn, Comes}
+use Rattle.step.specs.declared.problem.Problem.{Problem}
+use Rattle.step.proofs.Taken.{going-taken, going-refused}
 use Rattle.replay.proofs.Totals.{steps-length}
 use Rattle.replay.proofs.TakenSteps.{going-first}
 use Rattle.display.specs.Forward.{steppedAt}

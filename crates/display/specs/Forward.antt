@@ -3,10 +3,10 @@ use Prim.Native.Nat.{ℕ}
 use mathlib.Core.List.{List}
 use Rattle.hgn.specs.Run.{Step, Stepped, stepped}
 use Rattle.hgn.specs.Replay.{rulesOf}
-use Rattle.steps.specs.Steps as Steps
-use Rattle.steps.specs.Steps.{problemIn}
-use Rattle.reading.specs.declared.refusal.Refusal.{Refusal}
-use Rattle.steps.specs.declared.problem.Problem.{Problem}
+use Rattle.step.specs.Steps as Steps
+use Rattle.step.specs.Steps.{problemIn}
+use Rattle.sheet_rows.specs.declared.refusal.Refusal.{Refusal}
+use Rattle.step.specs.declared.problem.Problem.{Problem}
 
 -- What step `x`, the trace's step number `n`, comes to at a record.
 abbrev pub steppedAt : List ℕ → List ℕ → ℕ → Step → Problem → Stepped

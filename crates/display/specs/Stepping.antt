@@ -14,12 +14,12 @@ use Rattle.hgn.specs.Trace.{stepCount, stepsOf}
 use Rattle.hgn.specs.Replay.{rulesOf, Replayed, reported, replay}
 use Rattle.hgn.specs.Readings.{Reached}
 use Rattle.hgn.specs.Demands.{InputsPass}
-use Rattle.steps.specs.Steps.{problemIn}
-use Rattle.steps.specs.Taking.{Going}
+use Rattle.step.specs.Steps.{problemIn}
+use Rattle.step.specs.Taking.{Going}
 use Rattle.replay.specs.Running.{Prepared}
-use Rattle.reading.specs.Refusals.{refusalOf}
-use Rattle.reading.specs.declared.refusal.Refusal.{Refusal}
-use Rattle.steps.specs.declared.problem.Problem.{Problem}
+use Rattle.sheet_rows.specs.Refusals.{refusalOf}
+use Rattle.sheet_rows.specs.declared.refusal.Refusal.{Refusal}
+use Rattle.step.specs.declared.problem.Problem.{Problem}
 use Rattle.display.specs.Forward.{Forward}
 
 -- A call of the display for step `x`, the trace's step number `n`, at the record that it holds.

@@ -11,7 +11,7 @@ use Rattle.hgn.specs.Lists.{below}
 use Rattle.hgn.specs.Rows.{Row, row, valuesOf}
 use Rattle.hgn.specs.Network.{sameOrigin, isParent}
 use Rattle.network.specs.Entries.{orderOrigin, originOf, nameOf, waitingOf, sameName}
-use Rattle.spans.specs.Index.{spanRows}
+use Rattle.sheet_index.specs.Index.{spanRows}
 use Rattle.network.specs.declared.waiting.Entry.{Entry}
 use Rattle.network.specs.declared.waiting.Name.{Name}
 use Rattle.hgn.specs.Network as Network

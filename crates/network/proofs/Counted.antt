@@ -24,7 +24,7 @@ use Rattle.hgn.proofs.Waiting.{length-enter, goal-mem}
 use Rattle.hgn.proofs.Checked.{Numbered, shop-of-order, shop-counts, order-numbered, method-numbered}
 use Rattle.hgn.proofs.Names.{Named, Distinct}
 use Rattle.hgn.proofs.Reached.{Ordered}
-use Rattle.spans.specs.Tables.{Indexed}
+use Rattle.sheet_index.specs.Tables.{Indexed}
 use Rattle.network.proofs.Gaps.{behind-gap}
 use Rattle.network.specs.Pending.{listed, pending, Counted}
 use Rattle.network.specs.Kept.{Filled}

@@ -12,9 +12,9 @@ use borrow.Author.Tests.{eq-eqb, ne-eqb}
 use Rattle.hgn.specs.Meaning.{nodeOf, lastAfterAll}
 use Rattle.hgn.specs.Network as Network
 use Rattle.hgn.specs.Network.{enter}
-use Rattle.reading.specs.declared.position.Sheet.{Sheet}
+use Rattle.sheet_rows.specs.declared.position.Sheet.{Sheet}
 use Rattle.network.specs.Entries.{orderOrigin, nameOf, waitingOf}
-use Rattle.spans.specs.Tables.{Bounds, Walk, stop, next, nodeAt}
+use Rattle.sheet_index.specs.Tables.{Bounds, Walk, stop, next, nodeAt}
 use Rattle.network.specs.Entering.{entryOf, entriesFrom}
 use Rattle.network.specs.declared.waiting.Name.{Name}
 use Rattle.network.specs.declared.waiting.Entry.{Entry}

@@ -20,15 +20,15 @@ use Rattle.hgn.specs.Network.{mostWaiting, step, goalAt, free, enter, decompose
 use Rattle.hgn.specs.Run.{methodAt}
 use Rattle.hgn.specs.Shop.{domain, methodCount}
 use Rattle.hgn.proofs.Embedding.{take-map, drop-map}
-use Rattle.scan.specs.declared.rows.Layout.{Layout}
-use Rattle.spans.specs.Index.{span, spanRows, wordsOf, layoutOf, columnPart, tagsOf, valuesOf as valuesIn}
-use Rattle.spans.specs.Tables.{Indexed, Bounds, Walk, MethodAt}
-use Rattle.spans.specs.declared.operators.MethodRows.{MethodRows}
-use Rattle.spans.proofs.OperatorRows.{method-size}
-use Rattle.reading.specs.declared.position.Sheet.the-variants as Of
-use Rattle.spans.specs.declared.index.Span.{Span}
-use Rattle.spans.proofs.NodeWalks.{ahead, at-end, walk-same}
-use Rattle.spans.proofs.Spans.{by-test}
+use Rattle.sheet_check.specs.declared.rows.Layout.{Layout}
+use Rattle.sheet_index.specs.Index.{span, spanRows, wordsOf, layoutOf, columnPart, tagsOf, valuesOf as valuesIn}
+use Rattle.sheet_index.specs.Tables.{Indexed, Bounds, Walk, MethodAt}
+use Rattle.sheet_index.specs.declared.operators.MethodRows.{MethodRows}
+use Rattle.sheet_index.proofs.OperatorRows.{method-size}
+use Rattle.sheet_rows.specs.declared.position.Sheet.the-variants as Of
+use Rattle.sheet_index.specs.declared.index.Span.{Span}
+use Rattle.sheet_index.proofs.NodeWalks.{ahead, at-end, walk-same}
+use Rattle.sheet_index.proofs.Spans.{by-test}
 use Rattle.network.specs.Entries.{orderOrigin, nameOf, waitingOf}
 use Rattle.network.specs.Entering.{entryOf, entriesFrom}
 use Rattle.network.specs.declared.waiting.Entry.{Entry}

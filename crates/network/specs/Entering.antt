@@ -4,9 +4,9 @@ use Prim.Native.Nat.{ℕ, suc}
 use mathlib.Core.Bool.{Bool, _&&_}
 use mathlib.Core.List.{List, [], _∷_}
 use lib.Dec.{eqb}
-use Rattle.reading.specs.declared.position.Sheet.{Sheet}
-use Rattle.spans.specs.Index.{spanOf}
-use Rattle.spans.specs.Tables.{Bounds}
+use Rattle.sheet_rows.specs.declared.position.Sheet.{Sheet}
+use Rattle.sheet_index.specs.Index.{spanOf}
+use Rattle.sheet_index.specs.Tables.{Bounds}
 use Rattle.network.specs.declared.waiting.Name.{Name}
 use Rattle.network.specs.declared.waiting.Entry.{Entry}
 

@@ -10,8 +10,8 @@ use Rattle.hgn.specs.Rows as Rows
 use Rattle.hgn.specs.Tag as Tag
 use Rattle.hgn.specs.Meaning.{nodeOf}
 use Rattle.hgn.specs.Network as Network
-use Rattle.spans.specs.Index.{spanOf, spanRows}
-use Rattle.reading.specs.declared.position.Sheet.the-variants as Of
+use Rattle.sheet_index.specs.Index.{spanOf, spanRows}
+use Rattle.sheet_rows.specs.declared.position.Sheet.the-variants as Of
 use Rattle.network.specs.declared.waiting.Name.{Name}
 use Rattle.network.specs.declared.waiting.Entry.{Entry}
 

@@ -10,11 +10,11 @@ use Rattle.hgn.specs.Network as Network
 use Rattle.hgn.specs.Network.{goalAt}
 use Rattle.hgn.specs.Run.{methodAt}
 use Rattle.hgn.specs.Shop.{domain}
-use Rattle.reading.specs.declared.position.Sheet.{Sheet}
-use Rattle.reading.specs.declared.position.Sheet.the-variants as Of
-use Rattle.spans.specs.Index.{spanOf}
+use Rattle.sheet_rows.specs.declared.position.Sheet.{Sheet}
+use Rattle.sheet_rows.specs.declared.position.Sheet.the-variants as Of
+use Rattle.sheet_index.specs.Index.{spanOf}
 use Rattle.network.specs.Entries.{orderOrigin, waitingOf}
-use Rattle.spans.specs.Tables.{Bounds}
+use Rattle.sheet_index.specs.Tables.{Bounds}
 use Rattle.network.specs.Entering.{entriesFrom}
 use Rattle.network.specs.declared.waiting.Entry.{Entry}
 use Rattle.network.specs.declared.goals.Entering.{Entering}

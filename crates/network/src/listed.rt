@@ -2,9 +2,9 @@
 // runs".
 use crate::waiting::Entry;
 use crate::waiting::Name;
-use formulas::part;
-use reading::tag;
-use spans::index;
+use sheet_index::index;
+use sheet_rows::tag;
+use state::part;
 ghost use mathlib.Core.Path.{_≡_};
 ghost use mathlib.Core.Bool.{cond};
 ghost use mathlib.Core.List.{zipWith};

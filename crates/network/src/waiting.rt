@@ -1,7 +1,7 @@
 // A waiting goal, its name and its place. Document 01, "How a derivation runs".
-use reading::position::Sheet;
-use scan::rows::Row;
-use spans::index::Span;
+use sheet_check::rows::Row;
+use sheet_index::index::Span;
+use sheet_rows::position::Sheet;
 ghost use mathlib.Core.Path.{_≡_};
 ghost use Rattle.network.specs.Entries.{sameName, noEntry};
 

@@ -5,7 +5,7 @@ use crate::words::front_words;
 use crate::words::words_of;
 use replay::answer::Answer;
 use replay::call::replay;
-use sheets::check::Trace;
+use sheet_check::check::Trace;
 ghost use mathlib.Core.Path.{_≡_};
 ghost use Prim.Native.Nat.{_≤_};
 ghost use lib.ListN.{length, take};

@@ -1,8 +1,8 @@
 // The files that the program reads. Document 01, "One core of sixty centimetres" and "The three sheets".
-use scan::rows::Layout;
-use sheets::check::Order;
-use sheets::check::Shop;
-use sheets::check::Trace;
+use sheet_check::check::Order;
+use sheet_check::check::Shop;
+use sheet_check::check::Trace;
+use sheet_check::rows::Layout;
 ghost use lib.ListN.{length};
 ghost use Rattle.program.specs.Files.{Within, PieceWithin};
 

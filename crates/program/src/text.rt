@@ -1,5 +1,5 @@
 // What the program prints. Document 01, "One core of sixty centimetres".
-use sheets::check::Trace;
+use sheet_check::check::Trace;
 ghost use mathlib.Core.Path.{_≡_};
 ghost use mathlib.Core.List.{_++_};
 ghost use Prim.Native.Nat.{_+_, _*_, _≤_};

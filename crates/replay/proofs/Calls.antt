@@ -21,9 +21,9 @@ use Rattle.hgn.proofs.Numbers.{of-trace, run-numbers, not-zero}
 use Rattle.hgn.proofs.Checked.{shop-of-order, order-of-trace, shop-counts}
 use Rattle.hgn.proofs.Replayed.{inputs-passed, replay-refused, replay-passed, verdictOf, run-first}
 use Rattle.hgn.proofs.Traces.{trace-sizes}
-use Rattle.scan.proofs.Lookup.{length-part}
-use Rattle.reading.specs.Refusals.{refusalOf}
-use Rattle.reading.specs.declared.refusal.Refusal.{Refusal}
+use Rattle.sheet_check.proofs.Lookup.{length-part}
+use Rattle.sheet_rows.specs.Refusals.{refusalOf}
+use Rattle.sheet_rows.specs.declared.refusal.Refusal.{Refusal}
 use Rattle.replay.specs.Answers.{answerOf, replayedOf, runAnswer, actionMoves}
 use Rattle.replay.specs.declared.answer.Answer.{Answer}
 use Rattle.replay.proofs.Plans.{plan-moves, plan-is}

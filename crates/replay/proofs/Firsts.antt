@@ -19,13 +19,13 @@ use Rattle.hgn.specs.Questions.{passed}
 use Rattle.hgn.specs.Order as Order
 use Rattle.hgn.specs.Order.{orderRows}
 use Rattle.hgn.proofs.Checked.{order-count}
-use Rattle.reading.specs.declared.position.Sheet.the-variants as Of
-use Rattle.spans.specs.Index.{ends, span, spanRows, spanOf}
-use Rattle.scan.proofs.Lookup.{rows-at}
-use Rattle.spans.proofs.Spans.{by-test, ends-length, NodesFrom}
-use Rattle.spans.proofs.Indexed.{order-length, order-whole, order-nodes-here, order-nodes-later, order-until, order-columns, order-fits}
+use Rattle.sheet_rows.specs.declared.position.Sheet.the-variants as Of
+use Rattle.sheet_index.specs.Index.{ends, span, spanRows, spanOf}
+use Rattle.sheet_check.proofs.Lookup.{rows-at}
+use Rattle.sheet_index.proofs.Spans.{by-test, ends-length, NodesFrom}
+use Rattle.sheet_index.proofs.Indexed.{order-length, order-whole, order-nodes-here, order-nodes-later, order-until, order-columns, order-fits}
 use Rattle.network.specs.Entries.{orderOrigin, waitingOf}
-use Rattle.spans.specs.Tables.{Bounds, Walk, nodeAt}
+use Rattle.sheet_index.specs.Tables.{Bounds, Walk, nodeAt}
 use Rattle.network.specs.Entering.{entriesFrom}
 use Rattle.replay.specs.OrderTable.{OrderIndexed, firstRow}
 use Rattle.network.specs.Goals.{listIn, countsIn, nodeEntries, Begun}
@@ -34,7 +34,7 @@ use Rattle.network.proofs.WaitingGoals.{list-length, list-at, count-at}
 use Rattle.network.proofs.Counted.{counted-first}
 use Rattle.replay.specs.Running.{FirstGoals}
 use Rattle.network.proofs.Entered.{order-enters}
-use Rattle.spans.proofs.NodeParts.{walk-nodes}
+use Rattle.sheet_index.proofs.NodeParts.{walk-nodes}
 
 -- The order's goals, whose rows begin at `first`.
 pub record GoalsAt (shop order table : List ℕ) (first : ℕ) : Type 0 where

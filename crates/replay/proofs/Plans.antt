@@ -13,7 +13,7 @@ use Rattle.hgn.specs.Run.{Step, Move, release, act, use-method, unknown, moveOf
 use Rattle.hgn.specs.Trace.{step}
 use Rattle.hgn.proofs.Steps.{taken-deed, taken-passed, step-passed}
 use Rattle.hgn.proofs.Runs.{resumes, ended-empty}
-use Rattle.spans.proofs.Spans.{by-test}
+use Rattle.sheet_index.proofs.Spans.{by-test}
 use Rattle.replay.specs.Answers.{actionMoves}
 
 -- The action that a move takes, if it is one.

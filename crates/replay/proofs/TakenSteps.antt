@@ -9,9 +9,9 @@ use Rattle.hgn.specs.Tag.{mostCost}
 use Rattle.hgn.specs.Trace.{stepCount, stepsOf}
 use Rattle.hgn.specs.Shop.{domain}
 use Rattle.hgn.specs.Replay.{rulesOf}
-use Rattle.steps.specs.declared.moves.Move.{Move}
-use Rattle.steps.specs.declared.moves.Move.the-variants.{Release, Act, Use}
-use Rattle.steps.specs.Taking.{problemWith, Going, TakenBy}
+use Rattle.step.specs.declared.moves.Move.{Move}
+use Rattle.step.specs.declared.moves.Move.the-variants.{Release, Act, Use}
+use Rattle.step.specs.Taking.{problemWith, Going, TakenBy}
 use Rattle.network.proofs.Reaching.{reached-first}
 use Rattle.replay.specs.Running.{FirstGoals, TotalWith}
 use Rattle.replay.specs.declared.run.Totals.{Totals}

@@ -15,10 +15,10 @@ use Rattle.hgn.specs.Run.{Step, actionAt, Deed, refused, taken, stepped, endQue
 use Rattle.hgn.specs.Shop.{domain}
 use Rattle.hgn.specs.Trace.{step, stepsOf, stepCount}
 use Rattle.hgn.specs.Replay.{rulesOf, refusal, acceptance, reported}
-use Rattle.scan.proofs.Lookup.{length-zipWith, getD-zipWith, length-part, getD-part}
-use Rattle.spans.proofs.Spans.{by-test}
+use Rattle.sheet_check.proofs.Lookup.{length-zipWith, getD-zipWith, length-part, getD-part}
+use Rattle.sheet_index.proofs.Spans.{by-test}
 use Rattle.replay.specs.Answers.{runAnswer, endAnswer}
-use Rattle.steps.specs.declared.problem.Problem.{Problem}
+use Rattle.step.specs.declared.problem.Problem.{Problem}
 use Rattle.replay.proofs.Running.{prependAll, prepended-stopped, prepended-accepted, Running, running-next, running-stop, running-end}
 
 -- The steps of a trace that is long enough for them.

@@ -10,7 +10,7 @@ use Rattle.hgn.specs.Shop.{domain}
 use Rattle.hgn.specs.Trace.{stepCount, stepsOf}
 use Rattle.hgn.specs.Replay as Replay
 use Rattle.hgn.specs.Replay.{rulesOf, Replayed, refusal, reported}
-use Rattle.reading.specs.Refusals.{refusalOf}
+use Rattle.sheet_rows.specs.Refusals.{refusalOf}
 use Rattle.replay.specs.declared.answer.Answer.{Answer}
 
 abbrev pub answerOf : Answer → Replay.Answer

@@ -8,7 +8,7 @@ use lib.ListN.{take, getD}
 use Rattle.hgn.specs.Questions.{passed}
 use Rattle.hgn.specs.Tag as Tag
 use Rattle.hgn.specs.Order.{sizeWords, rowCount, orderRows, checkOrder}
-use Rattle.spans.specs.Index.{ends}
+use Rattle.sheet_index.specs.Index.{ends}
 
 -- The sheets passed, and this table says where the order's parts end.
 pub record OrderIndexed (shop order endTable : List ℕ) : Type 0 where

@@ -7,12 +7,12 @@ use Rattle.hgn.specs.Run.{startOf, actionAt}
 use Rattle.hgn.specs.Tag.{mostCost}
 use Rattle.hgn.specs.Shop.{domain}
 use Rattle.hgn.specs.Order as OrderSheet
-use Rattle.spans.specs.Tables.{Indexed}
+use Rattle.sheet_index.specs.Tables.{Indexed}
 use Rattle.network.specs.Goals.{listIn}
-use Rattle.steps.specs.Taking.{Kept}
-use Rattle.steps.specs.declared.moves.Move.{Move}
-use Rattle.steps.specs.declared.moves.Move.the-variants.{Release, Act, Use}
-use Rattle.steps.specs.declared.problem.Problem.{Problem}
+use Rattle.step.specs.Taking.{Kept}
+use Rattle.step.specs.declared.moves.Move.{Move}
+use Rattle.step.specs.declared.moves.Move.the-variants.{Release, Act, Use}
+use Rattle.step.specs.declared.problem.Problem.{Problem}
 use Rattle.replay.specs.declared.run.Totals.{Totals}
 
 -- The order's goals are all that waits.

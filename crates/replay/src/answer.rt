@@ -1,10 +1,10 @@
 // A replay's answer. Document 01, "Questions".
-use formulas::state::State;
-use reading::refusal::Refusal;
+use sheet_rows::refusal::Refusal;
+use state::atoms::State;
 ghost use mathlib.Core.Path.{_≡_};
 ghost use mathlib.Core.List.{[]};
 ghost use Rattle.hgn.specs.Replay as Replay;
-ghost use Rattle.reading.specs.Refusals.{refusalOf};
+ghost use Rattle.sheet_rows.specs.Refusals.{refusalOf};
 ghost use Rattle.replay.specs.Answers.{answerOf};
 
 // The first question that is answered no, its number 0 for none; the last state, the plan's length and its cost.

@@ -1,22 +1,22 @@
 // The first record of a run, from the order sheet. Document 01, "How a derivation runs": at first the state is the atoms of the
 // order's 12 rows, and the waiting list holds the order's goals in listed order.
-use formulas::state;
-use formulas::state::State;
 use network::goals::Entering;
 use network::goals::Goals;
 use network::goals::begin;
 use network::waiting::Name;
-use reading::position::Sheet;
-use reading::tag;
-use scan::rows::Row;
-use scan::rows::word;
-use sheets::check::Order;
-use sheets::check::Shop;
-use sheets::sizes::OrderSizes;
-use sheets::sizes::ShopSizes;
-use spans::index;
-use spans::index::Span;
-use steps::problem::Problem;
+use sheet_check::check::Order;
+use sheet_check::check::Shop;
+use sheet_check::rows::Row;
+use sheet_check::rows::word;
+use sheet_check::sizes::OrderSizes;
+use sheet_check::sizes::ShopSizes;
+use sheet_index::index;
+use sheet_index::index::Span;
+use sheet_rows::position::Sheet;
+use sheet_rows::tag;
+use state::atoms;
+use state::atoms::State;
+use step::problem::Problem;
 ghost use mathlib.Core.Path.{_≡_};
 ghost use Prim.Native.Nat.{suc, _+_, _≤_};
 ghost use lib.ListN.{length};
@@ -25,8 +25,8 @@ ghost use Rattle.hgn.specs.Shop.{mostActions, mostMethods};
 ghost use Rattle.hgn.specs.Run.{startOf};
 ghost use Rattle.hgn.specs.Order as OrderSheet;
 ghost use Rattle.hgn.specs.Questions.{passed};
-ghost use Rattle.spans.specs.Tables.{Indexed};
-ghost use Rattle.spans.specs.declared.index.Span.{Span};
+ghost use Rattle.sheet_index.specs.Tables.{Indexed};
+ghost use Rattle.sheet_index.specs.declared.index.Span.{Span};
 ghost use Rattle.network.specs.Goals.{goalsWords};
 ghost use Rattle.replay.specs.OrderTable.{OrderIndexed, firstRow};
 ghost use Rattle.replay.specs.Running.{FirstGoals, Prepared};
@@ -60,7 +60,7 @@ pub fn start<'a>(shop: &'a [u16], order: &'a [u16]) -> [bool; Shop::MOST_ATOMS a
     let values = index::values_of(rows, shop, order);
     let empty = State::empty();
     let none = empty.atoms;
-    state::assigned(none, tags, values, tag::TRUE_AT_START, true)
+    atoms::assigned(none, tags, values, tag::TRUE_AT_START, true)
 }
 
 // The table of the order, for its goals.

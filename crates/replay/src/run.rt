@@ -1,18 +1,18 @@
 // The run of a trace's steps. Document 01, "How a derivation runs".
 use crate::answer::Answer;
-use formulas::state::State;
 use network::goals;
 use network::goals::Goals;
 use network::waiting::Place;
-use reading::refusal::Refusal;
-use scan::rows::word;
-use sheets::check::Trace;
-use sheets::sizes::TraceSizes;
-use spans::operators;
-use steps::moves::Move;
-use steps::questions::Decision;
-use steps::taking;
-use steps::taking::Step;
+use sheet_check::check::Trace;
+use sheet_check::rows::word;
+use sheet_check::sizes::TraceSizes;
+use sheet_index::operators;
+use sheet_rows::refusal::Refusal;
+use state::atoms::State;
+use step::moves::Move;
+use step::questions::Decision;
+use step::taking;
+use step::taking::Step;
 ghost use mathlib.Core.Path.{_≡_};
 ghost use mathlib.Core.List.{List};
 ghost use Prim.Native.Nat.{ℕ, _≤_, _+_, _*_};
@@ -20,11 +20,11 @@ ghost use lib.ListN.{length};
 ghost use Rattle.hgn.specs.Shop.{actionCount, methodCount};
 ghost use Rattle.hgn.specs.Tag.{mostCost};
 ghost use Rattle.hgn.specs.Trace.{mostSteps, stepCount};
-ghost use Rattle.spans.specs.Tables.{Indexed};
-ghost use Rattle.steps.specs.Moves.{Known};
+ghost use Rattle.sheet_index.specs.Tables.{Indexed};
+ghost use Rattle.step.specs.Moves.{Known};
 ghost use Rattle.network.specs.Goals.{countIn};
 ghost use Rattle.replay.specs.Answers.{answerOf, runAnswer, endAnswer};
-ghost use Rattle.steps.specs.Taking.{problemWith};
+ghost use Rattle.step.specs.Taking.{problemWith};
 ghost use Rattle.replay.specs.Running.{FirstGoals, TotalWith};
 
 // How many actions were taken, and the sum of their costs.

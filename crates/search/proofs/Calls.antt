@@ -15,8 +15,8 @@ use Rattle.hgn.specs.Search.{Searched, isFound, stepsFound, searched, noTrace, 
 use Rattle.hgn.proofs.Firsts.{told-passed}
 use Rattle.hgn.proofs.Numbers.{of-order, not-zero}
 use Rattle.hgn.proofs.Searches.{search-refused, search-passed, sheets-refused, depth-refused, room-refused, inputs-searched}
-use Rattle.reading.specs.Refusals.{refusalOf}
-use Rattle.reading.specs.declared.refusal.Refusal.{Refusal}
+use Rattle.sheet_rows.specs.Refusals.{refusalOf}
+use Rattle.sheet_rows.specs.declared.refusal.Refusal.{Refusal}
 use Rattle.search.specs.Founds.{searchedOf, shortestOf, traceOf}
 use Rattle.search.specs.declared.shortest.Shortest.{Shortest}
 use Rattle.search.proofs.Traces.{steps-length, trace-is}

@@ -10,7 +10,7 @@ use lib.Dec.{leb}
 use borrow.Author.Tests.{leb-true, leb-false}
 use Rattle.hgn.specs.Lists.{from, firstSome}
 use Rattle.hgn.specs.Run.{Step, Problem, Rules}
-use Rattle.pruning.specs.Pruned.{prunedOf, noStep, prunedShortest}
+use Rattle.search_theory.specs.Pruned.{prunedOf, noStep, prunedShortest}
 use Rattle.search.specs.Founds.{stepsFrom, foundOf, Finds}
 use Rattle.search.specs.declared.found.Found.{Found}
 

@@ -20,17 +20,17 @@ use Rattle.hgn.specs.Replay.{rulesOf}
 use Rattle.hgn.specs.Search.{movesOf, noSteps}
 use Rattle.hgn.proofs.Tests.{false-not-true}
 use Rattle.hgn.proofs.Checked.{shop-counts}
-use Rattle.steps.specs.Moves.{Known, knownOf}
-use Rattle.spans.specs.Tables.{Indexed}
-use Rattle.steps.specs.declared.moves.Move.{Move}
-use Rattle.steps.specs.declared.moves.Move.the-variants.{Release, Act, Use}
-use Rattle.steps.specs.declared.moves.Choice.{Choice}
-use Rattle.spans.proofs.Tables.{shop-passes}
-use Rattle.pruning.specs.Rules.{tooFewLeft}
-use Rattle.pruning.specs.Pruned.{prunedOf, moveAt, movesFrom, placesFrom}
-use Rattle.pruning.proofs.Loops.{moves-count, moves-next, moves-end, places-next, not-free-none, pruned-places}
+use Rattle.step.specs.Moves.{Known, knownOf}
+use Rattle.sheet_index.specs.Tables.{Indexed}
+use Rattle.step.specs.declared.moves.Move.{Move}
+use Rattle.step.specs.declared.moves.Move.the-variants.{Release, Act, Use}
+use Rattle.step.specs.declared.moves.Choice.{Choice}
+use Rattle.sheet_index.proofs.Tables.{shop-passes}
+use Rattle.search_theory.specs.Rules.{tooFewLeft}
+use Rattle.search_theory.specs.Pruned.{prunedOf, moveAt, movesFrom, placesFrom}
+use Rattle.search_theory.proofs.Loops.{moves-count, moves-next, moves-end, places-next, not-free-none, pruned-places}
 use Rattle.search.specs.Founds.{stepsFrom, Covers, Finds}
-use Rattle.reasons.specs.Tests.{nthMove, moveNumber, stepOf, crowded}
+use Rattle.search_pruning.specs.Tests.{nthMove, moveNumber, stepOf, crowded}
 use Rattle.search.specs.Trials.{tried, Suffices, Open}
 use Rattle.search.specs.declared.found.Found.{Found}
 use Rattle.search.proofs.Trying.{crowded-out, open-few, open-kept, open-none}

@@ -19,26 +19,26 @@ use Rattle.hgn.specs.Shop.{domain, actionCount, methodCount}
 use Rattle.hgn.specs.Replay.{rulesOf}
 use Rattle.hgn.proofs.Steps.{Moved, by-release, by-action, by-method, took}
 use Rattle.hgn.proofs.Waits.{one-released, none-lost}
-use Rattle.reading.specs.Refusals.{refusalOf}
-use Rattle.reading.specs.declared.refusal.Refusal as Code
-use Rattle.reading.proofs.Laws.{told}
-use Rattle.spans.specs.Index.{spanRows}
-use Rattle.spans.specs.Tables.{Indexed}
-use Rattle.spans.specs.declared.index.Span.{Span}
+use Rattle.sheet_rows.specs.Refusals.{refusalOf}
+use Rattle.sheet_rows.specs.declared.refusal.Refusal as Code
+use Rattle.sheet_rows.proofs.Laws.{told}
+use Rattle.sheet_index.specs.Index.{spanRows}
+use Rattle.sheet_index.specs.Tables.{Indexed}
+use Rattle.sheet_index.specs.declared.index.Span.{Span}
 use Rattle.network.specs.Entries.{waitingOf}
 use Rattle.network.specs.declared.waiting.Entry.{Entry}
 use Rattle.network.specs.Goals.{countIn, entryIn, listIn}
 use Rattle.network.proofs.WaitingGoals.{list-length, list-at}
-use Rattle.steps.specs.Moves.{Known, knownOf}
-use Rattle.steps.specs.Deciding.{Faces, Answers}
-use Rattle.steps.specs.Taking.{problemWith}
-use Rattle.steps.specs.declared.moves.Choice.{Choice}
-use Rattle.steps.proofs.Bodies.{own-refuses, own-takes, own-room}
-use Rattle.steps.proofs.Decided.{own-told}
-use Rattle.pruning.specs.Rules.{idle, lowerToo, tooFewLeft, couldGoFirst, leftOut}
-use Rattle.pruning.specs.Pruned.{behind, prunedOf}
-use Rattle.reasons.specs.Tests.{moveNumber, stepOf, crowded}
-use Rattle.reasons.proofs.Reading.{number-read}
+use Rattle.step.specs.Moves.{Known, knownOf}
+use Rattle.step.specs.Deciding.{Faces, Answers}
+use Rattle.step.specs.Taking.{problemWith}
+use Rattle.step.specs.declared.moves.Choice.{Choice}
+use Rattle.step.proofs.Bodies.{own-refuses, own-takes, own-room}
+use Rattle.step.proofs.Decided.{own-told}
+use Rattle.search_theory.specs.Rules.{idle, lowerToo, tooFewLeft, couldGoFirst, leftOut}
+use Rattle.search_theory.specs.Pruned.{behind, prunedOf}
+use Rattle.search_pruning.specs.Tests.{moveNumber, stepOf, crowded}
+use Rattle.search_pruning.proofs.Reading.{number-read}
 use Rattle.search.specs.Trials.{tried, Suffices, Taken, NotTaken, Open}
 
 -- A move that was crowded leaves too few steps.

@@ -5,7 +5,7 @@ use mathlib.Core.Path.{_≡_}
 use mathlib.Core.List.{List}
 use Rattle.hgn.specs.Search.{search}
 use Rattle.hgn.specs.Demands.{SearchAnswers, IsFirstOfShortest, SearchAndReplay}
-use Rattle.reading.specs.declared.refusal.Refusal.{Refusal}
+use Rattle.sheet_rows.specs.declared.refusal.Refusal.{Refusal}
 use Rattle.search.specs.Founds.{searchedOf}
 
 abbrev pub Searches : List ℕ → List ℕ → ℕ → List ℕ → Refusal → List ℕ → Type 0

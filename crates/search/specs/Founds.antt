@@ -9,8 +9,8 @@ use lib.ListN.{take, drop}
 use Rattle.hgn.specs.Run.{Step}
 use Rattle.hgn.specs.Trace.{step}
 use Rattle.hgn.specs.Search.{Searched}
-use Rattle.reading.specs.Refusals.{refusalOf}
-use Rattle.reading.specs.declared.refusal.Refusal.{Refusal}
+use Rattle.sheet_rows.specs.Refusals.{refusalOf}
+use Rattle.sheet_rows.specs.declared.refusal.Refusal.{Refusal}
 use Rattle.search.specs.declared.found.Found.{Found}
 use Rattle.search.specs.declared.shortest.Shortest.{Shortest}
 

@@ -11,17 +11,17 @@ use Rattle.hgn.specs.Run.{Step, Problem, Rules, refused, stepped}
 use Rattle.hgn.specs.Shop.{domain, actionCount, methodCount}
 use Rattle.hgn.specs.Search.{mostDepth}
 use Rattle.hgn.specs.Replay.{rulesOf}
-use Rattle.spans.specs.Tables.{Indexed}
+use Rattle.sheet_index.specs.Tables.{Indexed}
 use Rattle.network.specs.Goals.{countIn}
-use Rattle.steps.specs.Moves.{Known, knownOf}
-use Rattle.steps.specs.Deciding.{Taking}
-use Rattle.steps.specs.Taking.{Kept, Going}
-use Rattle.steps.specs.declared.moves.Move.the-variants.{Release}
-use Rattle.steps.specs.declared.moves.Choice.{Choice}
-use Rattle.pruning.specs.Rules.{idle, lowerToo, tooFewLeft, couldGoFirst}
-use Rattle.pruning.specs.Pruned.{behind, prunedOf}
-use Rattle.needed.specs.Tables.{OnlyAchievers}
-use Rattle.reasons.specs.Tests.{moveNumber, stepOf}
+use Rattle.step.specs.Moves.{Known, knownOf}
+use Rattle.step.specs.Deciding.{Taking}
+use Rattle.step.specs.Taking.{Kept, Going}
+use Rattle.step.specs.declared.moves.Move.the-variants.{Release}
+use Rattle.step.specs.declared.moves.Choice.{Choice}
+use Rattle.search_theory.specs.Rules.{idle, lowerToo, tooFewLeft, couldGoFirst}
+use Rattle.search_theory.specs.Pruned.{behind, prunedOf}
+use Rattle.search_bound.specs.Tables.{OnlyAchievers}
+use Rattle.search_pruning.specs.Tests.{moveNumber, stepOf}
 use Rattle.search.specs.declared.explore.Node.{Node}
 
 -- What is lent to a search: where the parts of the sheets stand, and which action alone achieves a literal.

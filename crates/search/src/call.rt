@@ -2,8 +2,8 @@
 use crate::found::Found;
 use crate::shortest;
 use crate::shortest::Shortest;
-use reading::refusal::Refusal;
-use sheets::check;
+use sheet_check::check;
+use sheet_rows::refusal::Refusal;
 ghost use mathlib.Core.Path.{_≡_};
 ghost use Prim.Native.Nat.{_≤_, _+_};
 ghost use lib.ListN.{length};

@@ -2,17 +2,17 @@
 // a step that is taken the place routine goes on with one step fewer. Document 01, "How a derivation runs".
 use crate::found::Found;
 use crate::trial;
-use needed::achievers;
 use network::goals;
 use network::goals::Goals;
 use network::waiting::Place;
-use reasons::moves;
-use reasons::rules;
-use sheets::check::Shop;
-use sheets::sizes::ShopSizes;
-use steps::moves::Choice;
-use steps::moves::Move;
-use steps::taking;
+use search_bound::achievers;
+use search_pruning::moves;
+use search_pruning::rules;
+use sheet_check::check::Shop;
+use sheet_check::sizes::ShopSizes;
+use step::moves::Choice;
+use step::moves::Move;
+use step::taking;
 ghost use mathlib.Core.Path.{_≡_};
 ghost use mathlib.Core.Bool.{true};
 ghost use Prim.Native.Nat.{_≤_, _<_, _+_, _-_};
@@ -22,9 +22,9 @@ ghost use Rattle.hgn.specs.Run.{Problem, Step};
 ghost use Rattle.hgn.specs.Search.{mostDepth};
 ghost use Rattle.hgn.specs.Replay.{rulesOf};
 ghost use Rattle.network.specs.Goals.{countIn, listIn};
-ghost use Rattle.steps.specs.Taking.{problemWith, Going};
-ghost use Rattle.pruning.specs.Pruned.{prunedOf, movesFrom};
-ghost use Rattle.reasons.specs.Tests.{stepOf};
+ghost use Rattle.step.specs.Taking.{problemWith, Going};
+ghost use Rattle.search_theory.specs.Pruned.{prunedOf, movesFrom};
+ghost use Rattle.search_pruning.specs.Tests.{stepOf};
 ghost use Rattle.search.specs.Founds.{Finds};
 ghost use Rattle.search.specs.Trials.{firstNode, Lent, Stands, Open, tried};
 

@@ -2,12 +2,12 @@
 use crate::explore;
 use crate::explore::Node;
 use crate::found::Found;
-use needed::achievers;
-use needed::least;
 use network::goals::Goals;
 use replay::first;
-use sheets::check::Shop;
-use spans::index::Tables;
+use search_bound::achievers;
+use search_bound::least;
+use sheet_check::check::Shop;
+use sheet_index::index::Tables;
 ghost use mathlib.Core.Path.{_≡_};
 ghost use mathlib.Core.Bool.{false};
 ghost use Prim.Native.Nat.{suc, _≤_, _+_};
@@ -18,8 +18,8 @@ ghost use Rattle.hgn.specs.Questions.{passed};
 ghost use Rattle.hgn.specs.Order.{checkOrder};
 ghost use Rattle.hgn.specs.Replay.{rulesOf};
 ghost use Rattle.hgn.specs.Search.{searched, mostDepth};
-ghost use Rattle.steps.specs.Taking.{problemWith, Going};
-ghost use Rattle.pruning.specs.Pruned.{prunedShortest};
+ghost use Rattle.step.specs.Taking.{problemWith, Going};
+ghost use Rattle.search_theory.specs.Pruned.{prunedShortest};
 ghost use Rattle.search.specs.Trials.{Lent};
 ghost use Rattle.search.specs.Founds.{shortestOf};
 

@@ -1,15 +1,15 @@
 // The tests of a step of the search that need no more than the state and the goals before it.
 use crate::explore::Node;
 use crate::found::Found;
-use needed::achievers;
-use needed::least;
 use network::goals;
 use network::goals::Goals;
-use reasons::rules;
-use sheets::check::Shop;
-use steps::moves::Choice;
-use steps::moves::Move;
-use steps::questions;
+use search_bound::achievers;
+use search_bound::least;
+use search_pruning::rules;
+use sheet_check::check::Shop;
+use step::moves::Choice;
+use step::moves::Move;
+use step::questions;
 ghost use mathlib.Core.Path.{_≡_};
 ghost use mathlib.Core.Bool.{true, cond, not};
 ghost use Prim.Native.Nat.{_<_, _≤_};
@@ -17,11 +17,11 @@ ghost use lib.Dec.{ltb};
 ghost use Rattle.hgn.specs.Network.{free, goalAt};
 ghost use Rattle.hgn.specs.Shop.{actionCount, methodCount};
 ghost use Rattle.hgn.specs.Search.{mostDepth};
-ghost use Rattle.spans.specs.Tables.{Indexed};
+ghost use Rattle.sheet_index.specs.Tables.{Indexed};
 ghost use Rattle.network.specs.Goals.{countIn, listIn, Within};
-ghost use Rattle.steps.specs.Moves.{Known, knownOf};
-ghost use Rattle.steps.specs.Taking.{problemWith, Kept};
-ghost use Rattle.reasons.specs.Tests.{crowded, stepOf};
+ghost use Rattle.step.specs.Moves.{Known, knownOf};
+ghost use Rattle.step.specs.Taking.{problemWith, Kept};
+ghost use Rattle.search_pruning.specs.Tests.{crowded, stepOf};
 ghost use Rattle.search.specs.Trials.{Lent, MayTake, Opens, Suffices};
 
 // No question of the move's own is answered no at a free goal, and it is no action that leaves the state as it is.

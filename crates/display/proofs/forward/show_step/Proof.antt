@@ -37,17 +37,17 @@ use denote.Triple.Table.{entered, cited}
 use denote.Triple.Clauses.{Lasts, ensured, lasts}
 use denote.Triple.Walked.{says, Stays, stay-none, walkOf, AllGo, goes-none, Walks, ends-at, walked, walk-meets}
 use denote.Exit.{yes}
-use Rattle.steps.specs.declared.problem.Problem.{Problem}
-use Rattle.steps.proofs.problem.Problem as P
-use Rattle.steps.proofs.problem.Problem.Laws as P′
-use Rattle.steps.proofs.taking.Step as X
-use Rattle.steps.proofs.taking.Step.Laws as X′
-use Rattle.reading.specs.declared.refusal.Refusal.{Refusal}
-use Rattle.reading.proofs.refusal.Refusal as R
-use Rattle.reading.proofs.refusal.Refusal.Laws as R′
-use Rattle.steps.specs.declared.problem.Stepped.{Stepped}
-use Rattle.steps.proofs.problem.Stepped as S
-use Rattle.steps.proofs.problem.Stepped.Laws as S′
+use Rattle.step.specs.declared.problem.Problem.{Problem}
+use Rattle.step.proofs.problem.Problem as P
+use Rattle.step.proofs.problem.Problem.Laws as P′
+use Rattle.step.proofs.taking.Step as X
+use Rattle.step.proofs.taking.Step.Laws as X′
+use Rattle.sheet_rows.specs.declared.refusal.Refusal.{Refusal}
+use Rattle.sheet_rows.proofs.refusal.Refusal as R
+use Rattle.sheet_rows.proofs.refusal.Refusal.Laws as R′
+use Rattle.step.specs.declared.problem.Stepped.{Stepped}
+use Rattle.step.proofs.problem.Stepped as S
+use Rattle.step.proofs.problem.Stepped.Laws as S′
 use Rattle.display.proofs.Lends.{lends, back}
 use Rattle.display.proofs.Beside.{Beside, Passed, spelled, told, machine, Own, Checked, Ready, Moved, needs-both, again, typed-problem}
 use Rattle.display.proofs.Beside.{words-stay, step-stays, words-go, step-goes}

@@ -38,22 +38,22 @@ use denote.Triple.Spec.{Meets, tripleOf}
 use denote.Triple.Table.{entered, cited}
 use denote.Triple.Clauses.{ensured, lasts}
 use denote.Triple.Walked.{says, Stays, stay-ref, walkOf, AllGo, goes-ref, Walks, ends-at, walked, walk-meets}
-use Rattle.steps.specs.Steps as Steps
-use Rattle.reading.specs.declared.refusal.Refusal.{Refusal}
-use Rattle.reading.proofs.refusal.Refusal as R
-use Rattle.reading.proofs.refusal.Refusal.Laws as R′
-use Rattle.steps.specs.declared.problem.Problem.{Problem}
-use Rattle.steps.specs.declared.problem.Stepped as Code
-use Rattle.steps.proofs.problem.Problem as P
-use Rattle.steps.proofs.problem.Problem.Laws as P′
-use Rattle.steps.proofs.problem.Stepped as S
-use Rattle.steps.proofs.problem.Stepped.Laws as S′
-use Rattle.steps.proofs.taking.Step as X
-use Rattle.steps.proofs.taking.Step.Laws as X′
-use Rattle.steps.proofs.step.step as step
-use Rattle.steps.proofs.step.step.Symbol as step-def
-use Rattle.steps.proofs.step.step.Symbol.{name as #steps·step·step}
-use Rattle.steps.proofs.step.step.Met as step-thm
+use Rattle.step.specs.Steps as Steps
+use Rattle.sheet_rows.specs.declared.refusal.Refusal.{Refusal}
+use Rattle.sheet_rows.proofs.refusal.Refusal as R
+use Rattle.sheet_rows.proofs.refusal.Refusal.Laws as R′
+use Rattle.step.specs.declared.problem.Problem.{Problem}
+use Rattle.step.specs.declared.problem.Stepped as Code
+use Rattle.step.proofs.problem.Problem as P
+use Rattle.step.proofs.problem.Problem.Laws as P′
+use Rattle.step.proofs.problem.Stepped as S
+use Rattle.step.proofs.problem.Stepped.Laws as S′
+use Rattle.step.proofs.taking.Step as X
+use Rattle.step.proofs.taking.Step.Laws as X′
+use Rattle.step.proofs.record.step as step
+use Rattle.step.proofs.record.step.Symbol as step-def
+use Rattle.step.proofs.record.step.Symbol.{name as #step·record·step}
+use Rattle.step.proofs.record.step.Met as step-thm
 use Rattle.display.specs.Forward.{steppedAt}
 use Rattle.display.proofs.Beside.{Beside, Passed, spelled, told, number, step-of, machine, Own, Checked, Ready, Moved, needs-both, again, typed-problem}
 use Rattle.display.proofs.Beside.{words-stay, step-stays, words-go, step-goes}
@@ -168,7 +168,7 @@ module _ {M : Type 1} (𝓤 : URA M) (H : Heap 𝓤) (A : Atoms 𝓤) (W : Given
       (p, (tt, (tt, (tt, (tt, tt))))) (tt, (tt, (tt, (tt, (tt, tt)))))) $ says ! e $
       feqI ! (List Val) (vptr b o ∷ []) (vptr b o ∷ []) refl $ fjoin3 ! $ move ! (0 ∷ 4 ∷ []) $ fjoin ! $ move ! (1 ∷ 3 ∷ []) $ join ! $ frame ! $ frame ! $ done !
 
-  module _ (C : Calls 𝓤 H) (Λ : Loops 𝓤 H) (fm : FmC 𝓤 H (W .laws) C) (known-step : Triple 𝓤 (C #steps·step·step) (ToStep 𝓤 H A at-mem run))
+  module _ (C : Calls 𝓤 H) (Λ : Loops 𝓤 H) (fm : FmC 𝓤 H (W .laws) C) (known-step : Triple 𝓤 (C #step·record·step) (ToStep 𝓤 H A at-mem run))
       (known-record : Triple 𝓤 (C #display·forward·record-of) (RecordOf 𝓤 H A at-mem run)) (known-refusal : Triple 𝓤 (C #display·forward·refusal-of) (RefusalOf 𝓤 H A at-mem run)) where
     walk : Are (Beside κs) (Ises (Beside κs)) a (machine a) → Checked a → Ready a h
         → ent 𝓤 (onEntry 𝓤 H A forward.signature (κ, κs) (q, qs) (bound .0 .3) (bound .0 .4)) (WpFn 𝓤 H C Λ code.function args Post)
@@ -225,7 +225,7 @@ module _ {M : Type 1} (𝓤 : URA M) (H : Heap 𝓤) (A : Atoms 𝓤) (W : Given
         by ! (exits k w p (moved e ek ep)))))))))))))))))))))))))
 
 module _ {M : Type 1} (𝓤 : URA M) (H : Heap 𝓤) (A : Atoms 𝓤) (W : Given 𝓤 H A) (at-mem : Memory → SProp 𝓤) (run : Routine → Fun 𝓤) where
-  forward-walks : (C : Calls 𝓤 H) (Λ : Loops 𝓤 H) → FmC 𝓤 H (W .laws) C → Triple 𝓤 (C #steps·step·step) (ToStep 𝓤 H A at-mem run)
+  forward-walks : (C : Calls 𝓤 H) (Λ : Loops 𝓤 H) → FmC 𝓤 H (W .laws) C → Triple 𝓤 (C #step·record·step) (ToStep 𝓤 H A at-mem run)
       → Triple 𝓤 (C #display·forward·record-of) (RecordOf 𝓤 H A at-mem run) → Triple 𝓤 (C #display·forward·refusal-of) (RefusalOf 𝓤 H A at-mem run)
       → Walks 𝓤 H A forward.ended stayed (WpFn 𝓤 H C Λ code.function) (forward.clauses 𝓤 H A at-mem run)
   forward-walks C Λ fm known-step known-record known-refusal =
@@ -240,7 +240,7 @@ module _ {M : Type 1} (𝓤 : URA M) (H : Heap 𝓤) (A : Atoms 𝓤) (W : Given
       (goes-ref 𝓤 H A W 3 0 tt (plain (λ _. P.the-row)), (words 1 tt, (words 1 tt, (words 2 tt, (step-goes 𝓤 H A W 3, tt)))))
 
 forward-meets : {M : Type 1} (𝓤 : URA M) (H : Heap 𝓤) (A : Atoms 𝓤) → Given 𝓤 H A → (at-mem : Memory → SProp 𝓤) (run : Routine → Fun 𝓤) (𝓣 : Tables 𝓤 H)
-    → Triple 𝓤 (𝓣 .C #steps·step·step) (ToStep 𝓤 H A at-mem run) → Triple 𝓤 (𝓣 .C #display·forward·record-of) (RecordOf 𝓤 H A at-mem run)
+    → Triple 𝓤 (𝓣 .C #step·record·step) (ToStep 𝓤 H A at-mem run) → Triple 𝓤 (𝓣 .C #display·forward·record-of) (RecordOf 𝓤 H A at-mem run)
     → Triple 𝓤 (𝓣 .C #display·forward·refusal-of) (RefusalOf 𝓤 H A at-mem run) → Meets 𝓤 H A forward.signature (WpFn 𝓤 H (𝓣 .C) (𝓣 .Λ) code.function) (forward.spec 𝓤 H A at-mem run)
 forward-meets 𝓤 H A W at-mem run 𝓣 known-step known-record known-refusal =
     walk-meets 𝓤 H A forward.ended stayed W (goes 𝓤 H A W at-mem run) (forward.clauses 𝓤 H A at-mem run) (WpFn 𝓤 H (𝓣 .C) (𝓣 .Λ) code.function) (WpFn-mono 𝓤 H (W .laws) 𝓣 code.function)
@@ -252,7 +252,7 @@ step-forward-spec 𝓤 H 𝓜 𝓖 𝓡 =
     entered 𝓤 H (tripleOf 𝓤 H (𝓖 .A) forward.signature (forward.spec 𝓤 H (𝓖 .A) (𝓜 .mem) (𝓡 .run)))
     (tables 𝓤 H 𝓜 𝓡 code.env .C) (tables 𝓤 H 𝓜 𝓡 code.env .Λ) #display·forward·step-forward code.function (code.unfolded 𝓤 H 𝓜 𝓡)
     (forward-meets 𝓤 H (𝓖 .A) (givenOf 𝓤 H 𝓜 𝓖) (𝓜 .mem) (𝓡 .run) (tablesOf 𝓤 H 𝓜 (tables 𝓤 H 𝓜 𝓡 code.env))
-    (cited 𝓤 H (ToStep 𝓤 H (𝓖 .A) (𝓜 .mem) (𝓡 .run)) 𝓜 𝓡 code.env #steps·step·step step-def.routine code.calls-steps·step·step (step-thm.met 𝓤 H 𝓜 𝓖 𝓡))
+    (cited 𝓤 H (ToStep 𝓤 H (𝓖 .A) (𝓜 .mem) (𝓡 .run)) 𝓜 𝓡 code.env #step·record·step step-def.routine code.calls-step·record·step (step-thm.met 𝓤 H 𝓜 𝓖 𝓡))
     (cited 𝓤 H (RecordOf 𝓤 H (𝓖 .A) (𝓜 .mem) (𝓡 .run)) 𝓜 𝓡 code.env #display·forward·record-of record-of-def.routine code.calls-display·forward·record-of
     (record-of-thm.met 𝓤 H 𝓜 𝓖 𝓡))
     (cited 𝓤 H (RefusalOf 𝓤 H (𝓖 .A) (𝓜 .mem) (𝓡 .run)) 𝓜 𝓡 code.env #display·forward·refusal-of refusal-of-def.routine code.calls-display·forward·refusal-of

@@ -6,8 +6,8 @@ use mathlib.Core.Bool.{Bool, true, false}
 use lib.Dec.{eqb}
 use borrow.Author.Needs.{needs}
 use borrow.Author.Tests.{eqb-true, eqb-false}
-use Rattle.reading.proofs.Laws.{told}
-use Rattle.spans.proofs.Spans.{by-test}
+use Rattle.sheet_rows.proofs.Laws.{told}
+use Rattle.sheet_index.proofs.Spans.{by-test}
 use Rattle.network.specs.Goals.{countIn, pendingIn}
 use Rattle.network.proofs.WaitingGoals.{some-free, none-free}
 use Rattle.network.proofs.goals.any_free.Statement.{statement}

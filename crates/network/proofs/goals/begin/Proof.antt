@@ -3,7 +3,7 @@ use native.Mathlib.Omega.{arith}
 use mathlib.Core.Path.{ap, _∙_}
 use lib.ListN.{length, length-set}
 use borrow.Author.Needs.{needs}
-use Rattle.spans.proofs.NodeWalks.{walk-same}
+use Rattle.sheet_index.proofs.NodeWalks.{walk-same}
 use Rattle.network.proofs.Entering.{nodes-begun}
 use Rattle.network.proofs.goals.begin.Statement.{statement}
 use Rattle.network.proofs.goals.begin.Tie as tie

@@ -6,8 +6,8 @@ use mathlib.Core.List.{List}
 use lib.ListN.{length, set}
 use borrow.Author.Needs.{needs}
 use Rattle.hgn.specs.Network.{mostWaiting}
-use Rattle.spans.specs.Tables.{MethodAt}
-use Rattle.spans.proofs.OperatorRows.{method-size}
+use Rattle.sheet_index.specs.Tables.{MethodAt}
+use Rattle.sheet_index.proofs.OperatorRows.{method-size}
 use Rattle.network.specs.declared.waiting.Entry.{Entry}
 use Rattle.network.specs.Goals.{pendingField, countIn, startOf, OpenedWords, Decomposed}
 use Rattle.network.proofs.Entering.{goals-decomposed}

@@ -7,8 +7,8 @@ use lib.ListN.{length}
 use borrow.Author.Needs.{needs}
 use Rattle.hgn.specs.Rows.{mostRows}
 use Rattle.hgn.specs.Network.{mostWaiting}
-use Rattle.spans.specs.Tables.{Bounds, Walk}
-use Rattle.spans.proofs.NodeWalks.{ahead}
+use Rattle.sheet_index.specs.Tables.{Bounds, Walk}
+use Rattle.sheet_index.proofs.NodeWalks.{ahead}
 use Rattle.network.specs.Entries.{waitingOf}
 use Rattle.network.specs.declared.waiting.Entry.{Entry}
 use Rattle.network.specs.Goals.{goalsWords}

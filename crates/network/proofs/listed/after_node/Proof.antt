@@ -4,7 +4,7 @@ use mathlib.Core.List.{List, zipWith}
 use Prim.Native.Nat.{ℕ}
 use borrow.Author.Needs.{needs}
 use Rattle.hgn.specs.Rows.{Row, row}
-use Rattle.spans.specs.Index.{spanRows}
+use Rattle.sheet_index.specs.Index.{spanRows}
 use Rattle.network.proofs.Afters.{last-listed, last-unlisted, row-listed}
 use Rattle.network.proofs.listed.after_node.Statement.{statement}
 use Rattle.network.proofs.listed.after_node.Tie as tie

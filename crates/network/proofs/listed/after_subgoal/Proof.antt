@@ -1,6 +1,6 @@
 -- Assumes nothing.
 use borrow.Author.Needs.{needs}
-use Rattle.reading.proofs.Laws.{told}
+use Rattle.sheet_rows.proofs.Laws.{told}
 use Rattle.network.proofs.Afters.{no-parent, by-parent, not-by-parent}
 use Rattle.network.proofs.listed.after_subgoal.Statement.{statement}
 use Rattle.network.proofs.listed.after_subgoal.Tie as tie

@@ -6,7 +6,7 @@ use mathlib.Core.List.{zipWith}
 use lib.ListN.{length, drop}
 use borrow.Author.Needs.{needs}
 use Rattle.hgn.specs.Rows.{row, valuesOf}
-use Rattle.formulas.proofs.Walks.{by-row, at-end}
+use Rattle.state.proofs.Walks.{by-row, at-end}
 use Rattle.network.proofs.Afters.{counted-after, counted-other, counted-none}
 use Rattle.network.proofs.listed.afters.Statement.{statement}
 use Rattle.network.proofs.listed.afters.Tie as tie

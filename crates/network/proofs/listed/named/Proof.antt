@@ -6,7 +6,7 @@ use mathlib.Core.List.{zipWith}
 use lib.ListN.{drop}
 use borrow.Author.Needs.{needs}
 use Rattle.hgn.specs.Rows.{row, valuesOf}
-use Rattle.formulas.proofs.Walks.{by-row, at-end}
+use Rattle.state.proofs.Walks.{by-row, at-end}
 use Rattle.network.specs.Pending.{occurrences}
 use Rattle.network.proofs.Afters.{found-after, found-other-value, found-other, found-none}
 use Rattle.network.proofs.listed.named.Statement.{statement}

@@ -3,9 +3,9 @@ use native.Mathlib.Omega.{arith}
 use mathlib.Core.Path.{subst}
 use borrow.Author.Needs.{needs}
 use Rattle.hgn.specs.Order.{orderRows}
-use Rattle.scan.specs.declared.rows.Layout.{Layout}
-use Rattle.spans.specs.Index.{Filled}
-use Rattle.spans.proofs.Indexed.{order-indexable}
+use Rattle.sheet_check.specs.declared.rows.Layout.{Layout}
+use Rattle.sheet_index.specs.Index.{Filled}
+use Rattle.sheet_index.proofs.Indexed.{order-indexable}
 use Rattle.replay.proofs.first.index_order.Statement.{statement}
 use Rattle.replay.proofs.first.index_order.Tie as tie
 

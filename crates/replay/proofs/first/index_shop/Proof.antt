@@ -6,7 +6,7 @@ use borrow.Author.Needs.{needs}
 use Rattle.hgn.specs.Questions.{passed}
 use Rattle.hgn.specs.Shop.{actionCount, methodCount, checkShop, shopRows}
 use Rattle.hgn.proofs.Checked.{shop-of-order, shop-actions, shop-methods, shop-counts}
-use Rattle.spans.proofs.Indexed.{shop-indexable}
+use Rattle.sheet_index.proofs.Indexed.{shop-indexable}
 use Rattle.replay.proofs.first.index_shop.Statement.{statement}
 use Rattle.replay.proofs.first.index_shop.Tie as tie
 

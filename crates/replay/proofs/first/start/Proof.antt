@@ -9,8 +9,8 @@ use Rattle.hgn.specs.Rows.{Row, row, valuesOf}
 use Rattle.hgn.specs.Meaning.{orderOf}
 use Rattle.hgn.specs.Order as Order
 use Rattle.hgn.specs.State.{State, assign}
-use Rattle.reading.specs.declared.position.Sheet.the-variants as Of
-use Rattle.spans.specs.Index.{spanOf, spanRows}
+use Rattle.sheet_rows.specs.declared.position.Sheet.the-variants as Of
+use Rattle.sheet_index.specs.Index.{spanOf, spanRows}
 use Rattle.replay.proofs.Firsts.{whole-rows}
 use Rattle.replay.proofs.first.start.Statement.{statement}
 use Rattle.replay.proofs.first.start.Tie as tie

@@ -5,8 +5,8 @@ use mathlib.Core.Path.{_≡_, refl, sym, subst, _∙_}
 use borrow.Author.Needs.{needs}
 use Rattle.hgn.specs.Order as Order
 use Rattle.hgn.proofs.Checked.{order-count, order-goals}
-use Rattle.spans.specs.Tables.{Walk}
-use Rattle.spans.proofs.Indexed.{order-few}
+use Rattle.sheet_index.specs.Tables.{Walk}
+use Rattle.sheet_index.proofs.Indexed.{order-few}
 use Rattle.replay.proofs.Firsts.{GoalsAt, goals-read, goals-begun}
 use Rattle.replay.proofs.first.write_goals.Statement.{statement}
 use Rattle.replay.proofs.first.write_goals.Tie as tie

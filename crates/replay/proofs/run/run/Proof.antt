@@ -12,15 +12,15 @@ use Rattle.hgn.specs.Run as Run
 use Rattle.hgn.specs.Run.{Problem}
 use Rattle.hgn.specs.Trace.{stepsOf, stepCount}
 use Rattle.hgn.specs.Replay.{rulesOf, refusal}
-use Rattle.steps.specs.declared.moves.Move.{Move}
-use Rattle.steps.specs.declared.questions.Decision.{Decision}
-use Rattle.steps.specs.declared.questions.Decision.the-variants.{Refused, Takes}
+use Rattle.step.specs.declared.moves.Move.{Move}
+use Rattle.step.specs.declared.questions.Decision.{Decision}
+use Rattle.step.specs.declared.questions.Decision.the-variants.{Refused, Takes}
 use Rattle.network.proofs.WaitingGoals.{list-length}
 use Rattle.replay.specs.Answers.{runAnswer, endAnswer}
-use Rattle.steps.specs.Taking.{problemWith, Going, TakenBy, Took}
+use Rattle.step.specs.Taking.{problemWith, Going, TakenBy, Took}
 use Rattle.replay.proofs.Running.{Running, running-start}
 use Rattle.replay.proofs.Totals.{run-stops, run-ended}
-use Rattle.steps.proofs.TakenSteps.{going-next}
+use Rattle.step.proofs.TakenSteps.{going-next}
 use Rattle.replay.proofs.TakenSteps.{run-goes, going-first}
 use Rattle.replay.proofs.run.run.Statement.{statement}
 use Rattle.replay.proofs.run.run.Tie as tie

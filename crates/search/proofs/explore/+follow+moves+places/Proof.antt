@@ -21,27 +21,27 @@ use Rattle.hgn.specs.Search.{mostDepth}
 use Rattle.hgn.specs.Shop.{domain, actionCount, methodCount}
 use Rattle.hgn.specs.Replay.{rulesOf}
 use Rattle.hgn.proofs.Checked.{shop-actions, shop-methods, shop-counts}
-use Rattle.reading.proofs.Laws.{told}
-use Rattle.sheets.proofs.sizes.ShopSizes.of.Reads as of
-use Rattle.spans.specs.Tables.{Indexed}
-use Rattle.spans.proofs.Tables.{shop-passes}
+use Rattle.sheet_rows.proofs.Laws.{told}
+use Rattle.sheet_check.proofs.sizes.ShopSizes.of.Reads as of
+use Rattle.sheet_index.specs.Tables.{Indexed}
+use Rattle.sheet_index.proofs.Tables.{shop-passes}
 use Rattle.network.specs.Goals.{countIn, pendingIn}
 use Rattle.network.proofs.WaitingGoals.{list-length, free-at}
 use Rattle.network.proofs.goals.count_of.Reads as count-of
 use Rattle.network.proofs.goals.is_free.Reads as is-free
-use Rattle.steps.specs.Moves.{Known, knownOf}
-use Rattle.steps.specs.Taking.{problemWith, Going, Applied}
-use Rattle.steps.specs.declared.moves.Move.{Move}
-use Rattle.steps.specs.declared.moves.Choice.{Choice}
-use Rattle.steps.proofs.TakenSteps.{taking-may, taken-by, going-next}
-use Rattle.steps.proofs.taking.apply.Reads as apply
-use Rattle.pruning.specs.Pruned.{movesFrom, placesFrom, prunedOf}
-use Rattle.pruning.proofs.Loops.{places-end}
-use Rattle.reasons.specs.Tests.{stepOf, crowded as isCrowded}
-use Rattle.reasons.proofs.Reading.{number-fits}
-use Rattle.reasons.proofs.moves.nth.Reads as nth
-use Rattle.reasons.proofs.moves.number_of.Reads as number-of
-use Rattle.reasons.proofs.rules.crowded.Reads as crowded
+use Rattle.step.specs.Moves.{Known, knownOf}
+use Rattle.step.specs.Taking.{problemWith, Going, Applied}
+use Rattle.step.specs.declared.moves.Move.{Move}
+use Rattle.step.specs.declared.moves.Choice.{Choice}
+use Rattle.step.proofs.TakenSteps.{taking-may, taken-by, going-next}
+use Rattle.step.proofs.taking.apply.Reads as apply
+use Rattle.search_theory.specs.Pruned.{movesFrom, placesFrom, prunedOf}
+use Rattle.search_theory.proofs.Loops.{places-end}
+use Rattle.search_pruning.specs.Tests.{stepOf, crowded as isCrowded}
+use Rattle.search_pruning.proofs.Reading.{number-fits}
+use Rattle.search_pruning.proofs.moves.nth.Reads as nth
+use Rattle.search_pruning.proofs.moves.number_of.Reads as number-of
+use Rattle.search_pruning.proofs.rules.crowded.Reads as crowded
 use Rattle.search.specs.Founds.{stepsFrom, Covers, Finds}
 use Rattle.search.specs.Trials.{Lent, Suffices, Stands, Open, Opens, tried}
 use Rattle.search.specs.declared.explore.Node.{Node}

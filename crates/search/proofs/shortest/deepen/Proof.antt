@@ -8,9 +8,9 @@ use mathlib.Core.Option.{Option}
 use borrow.Author.Needs.{needs}
 use Rattle.hgn.specs.Run.{Problem, Step}
 use Rattle.hgn.specs.Replay.{rulesOf}
-use Rattle.steps.specs.Taking.{problemWith}
-use Rattle.pruning.specs.Pruned.{prunedOf, prunedShortest}
-use Rattle.reasons.specs.Tests.{stepOf}
+use Rattle.step.specs.Taking.{problemWith}
+use Rattle.search_theory.specs.Pruned.{prunedOf, prunedShortest}
+use Rattle.search_pruning.specs.Tests.{stepOf}
 use Rattle.search.specs.Founds.{foundOf, shortestOf, Finds}
 use Rattle.search.specs.Trials.{firstNode, Stands}
 use Rattle.search.specs.declared.explore.Node.{Node}

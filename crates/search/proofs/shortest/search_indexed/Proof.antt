@@ -1,4 +1,4 @@
--- The first state, the order's goals and the tables, then the search by depth, which finds what the definition does (`Pruned` of `pruning`).
+-- The first state, the order's goals and the tables, then the search by depth, which finds what the definition does (`Pruned` of `search_theory`).
 -- Assumes nothing.
 use native.Mathlib.Omega.{arith}
 use mathlib.Core.Path.{_∙_, ap₂}
@@ -7,8 +7,8 @@ use borrow.Author.Needs.{needs}
 use Rattle.hgn.specs.State.{State}
 use Rattle.hgn.specs.Network.{Waiting}
 use Rattle.hgn.specs.Replay.{rulesOf}
-use Rattle.pruning.specs.Pruned.{prunedShortest}
-use Rattle.pruning.proofs.Pruned.{pruned-searched}
+use Rattle.search_theory.specs.Pruned.{prunedShortest}
+use Rattle.search_theory.proofs.Pruned.{pruned-searched}
 use Rattle.replay.proofs.TakenSteps.{going-first}
 use Rattle.search.proofs.shortest.search_indexed.Statement.{statement}
 use Rattle.search.proofs.shortest.search_indexed.Tie as tie

@@ -2,8 +2,8 @@
 use native.Mathlib.Omega.{arith}
 use mathlib.Core.Path.{subst}
 use borrow.Author.Needs.{needs}
-use Rattle.reading.proofs.Laws.{told}
-use Rattle.steps.specs.Taking.{problemWith}
+use Rattle.sheet_rows.proofs.Laws.{told}
+use Rattle.step.specs.Taking.{problemWith}
 use Rattle.search.specs.Trials.{MayTake}
 use Rattle.search.proofs.Trying.{closed-untaken, closed-first, closed-lower}
 use Rattle.search.proofs.trial.is_open.Statement.{statement}

@@ -2,7 +2,7 @@
 use native.Mathlib.Omega.{arith}
 use mathlib.Core.Logic.{inl}
 use borrow.Author.Needs.{needs}
-use Rattle.reading.proofs.Laws.{told}
+use Rattle.sheet_rows.proofs.Laws.{told}
 use Rattle.search.proofs.Trying.{not-taken, is-taken}
 use Rattle.search.proofs.trial.may_take.Statement.{statement}
 use Rattle.search.proofs.trial.may_take.Tie as tie

@@ -3,7 +3,7 @@ use mathlib.Core.Path.{ap}
 use borrow.Author.Needs.{needs}
 use Rattle.hgn.specs.State.{State}
 use Rattle.hgn.specs.Replay as Replay
-use Rattle.reading.specs.Refusals.{refusalOf}
+use Rattle.sheet_rows.specs.Refusals.{refusalOf}
 use Rattle.replay.proofs.answer.Answer.refused.Statement.{statement}
 use Rattle.replay.proofs.answer.Answer.refused.Tie as tie
 

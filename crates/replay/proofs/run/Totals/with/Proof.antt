@@ -3,7 +3,7 @@ use Prim.Native.Nat.{ℕ, _+_}
 use native.Mathlib.Omega.{arith}
 use mathlib.Core.Path.{refl, ap}
 use borrow.Author.Needs.{needs}
-use Rattle.steps.proofs.Actions.{known-action}
+use Rattle.step.proofs.Actions.{known-action}
 use Rattle.replay.proofs.TakenSteps.{total-release, total-action, total-method}
 use Rattle.replay.proofs.run.Totals.with.Statement.{statement}
 use Rattle.replay.proofs.run.Totals.with.Tie as tie

@@ -1,0 +1,79 @@
+// The public calls. A case gives each the parts that it takes; where it takes D, that stands in the trace's place.
+use crate::line;
+use crate::replayed;
+use crate::searched;
+use crate::sheet;
+use crate::stepping;
+use crate::text::equals;
+use sheet_check::check::check_order;
+use sheet_check::check::check_shop;
+use sheet_check::check::check_trace;
+
+pub enum Call {
+    Shop,
+    Order,
+    Trace,
+    Replay,
+    Search,
+    Display,
+}
+
+// What a name is the name of.
+pub enum Named {
+    Call(Call),
+    Nothing,
+}
+
+impl Call {
+    pub fn named(name: &[u8]) -> Named {
+        if equals(name, b"shop") {
+            return Named::Call(Call::Shop);
+        }
+        if equals(name, b"order") {
+            return Named::Call(Call::Order);
+        }
+        if equals(name, b"trace") {
+            return Named::Call(Call::Trace);
+        }
+        if equals(name, b"replay") {
+            return Named::Call(Call::Replay);
+        }
+        if equals(name, b"search") {
+            return Named::Call(Call::Search);
+        }
+        if equals(name, b"display") {
+            return Named::Call(Call::Display);
+        }
+        Named::Nothing
+    }
+
+    fn write_answer<'a>(self, shop: &'a [u16], order: &'a [u16], trace: &[u16], room: &[u8]) {
+        match self {
+            Call::Shop => line::verdict(check_shop(shop)),
+            Call::Order => line::verdict(check_order(shop, order)),
+            Call::Trace => line::verdict(check_trace(shop, order, trace)),
+            Call::Replay => replayed::write(shop, order, trace, room),
+            Call::Search => searched::write(shop, order, trace, room),
+            Call::Display => stepping::write(shop, order, trace),
+        }
+    }
+
+    // The call on what the texts say. Each sheet is made by a function of its own: one with three rooms takes longer to prove.
+    pub fn run(self, shop: &[u8], order: &[u8], trace: &[u8], room: &[u8]) {
+        let mut words = [0u16; sheet::ROOM];
+        let length = sheet::write(&mut words, sheet::SHOP, shop);
+        self.run_on_shop(sheet::front(&words, length), order, trace, room);
+    }
+
+    fn run_on_shop(self, shop: &[u16], order: &[u8], trace: &[u8], room: &[u8]) {
+        let mut words = [0u16; sheet::ROOM];
+        let length = sheet::write(&mut words, sheet::ORDER, order);
+        self.run_on_order(shop, sheet::front(&words, length), trace, room);
+    }
+
+    fn run_on_order<'a>(self, shop: &'a [u16], order: &'a [u16], trace: &[u8], room: &[u8]) {
+        let mut words = [0u16; sheet::ROOM];
+        let length = sheet::write(&mut words, sheet::TRACE, trace);
+        self.write_answer(shop, order, sheet::front(&words, length), room);
+    }
+}

@@ -1,0 +1,58 @@
+// What a search answers and what it leaves in the room: `: NUMBER PLACE; length L; moves WORDS; places WORDS; rest kept`.
+// Refused, `: NUMBER PLACE; rest kept`, and the rest is the whole room.
+use crate::line;
+use crate::room;
+use search::call::search;
+use sheet_check::check::Trace;
+use sheet_check::rows::word;
+use sheet_check::sizes::TraceSizes;
+use sheet_rows::refusal::Refusal;
+
+// The words of a room from `from` on, so many, or none where it has fewer.
+fn part(room: &[u16], from: usize, length: usize) -> &[u16] {
+    if from <= room.len() {
+        if length <= room.len() - from {
+            return &room[from..from + length];
+        }
+    }
+    &room[0..0]
+}
+
+// The trace of a length in a room's first words, and the words behind it.
+fn write_trace(room: &[u16], length: u16) {
+    let count = length as usize;
+    line::text(b"; length");
+    let sizes = TraceSizes::of(room);
+    line::number(sizes.steps as u64);
+    line::text(b"; moves");
+    room::write_list(part(room, Trace::SIZES, count));
+    line::text(b"; places");
+    room::write_list(part(room, Trace::SIZES + count, count));
+    room::write_rest(room, Trace::SIZES + 2 * count);
+}
+
+fn write_answer(answer: Refusal, room: &[u16]) {
+    line::text(b":");
+    line::refusal(answer);
+    if answer.number == 0 {
+        write_trace(room, answer.place);
+    } else {
+        room::write_rest(room, 0);
+    }
+    line::text(b"\n");
+}
+
+fn write_on<'a>(shop: &'a [u16], order: &'a [u16], depth: u16, room: &mut [u16]) {
+    room::fill(room);
+    let answer = search(shop, order, depth as u32, room);
+    write_answer(answer, room);
+}
+
+// The answer on a room of the length that the text says, with the first word as D.
+pub fn write<'a>(shop: &'a [u16], order: &'a [u16], words: &[u16], text: &[u8]) {
+    let length = room::length_of(text);
+    let mut room = [0u16; room::MOST];
+    if length <= room::MOST {
+        write_on(shop, order, word(words, 0), &mut room[0..length]);
+    }
+}

@@ -1,9 +1,0 @@
--- 256 times false is the empty state. Assumes nothing.
-use mathlib.Core.Path.{refl}
-use Rattle.hgn.specs.State.{emptyState}
-use Rattle.formulas.proofs.state.State.empty.Statement.{statement}
-use Rattle.formulas.proofs.state.State.empty.Tie as tie
-
-pub empty-spec : {M : Type 1} → statement M
-unfolding emptyState
-empty-spec = tie.close (tie.spec (λ c. refl))

@@ -1,5 +1,0 @@
--- Laws of the definitions in the shape that the code asks for.
-pub mod Counts
-pub mod Lookup
-pub mod GoneOn
-pub mod Scans

@@ -1,0 +1,6 @@
+-- How the code's answers stand for the definitions of `hgn`, and what is promised of them.
+pub mod Tally
+pub mod Scanned
+pub mod Sizes
+pub mod Answers
+pub mod Demands

@@ -1,0 +1,225 @@
+-- An action and a method of a checked shop sheet, read along its table: rows and cost; needs, nodes and goal. Assumes nothing.
+use Prim.Native.Nat.{ℕ, zero, suc, _+_, _-_, _<_, _≤_}
+use native.Mathlib.Omega.{arith}
+use native.Mathlib.Nat.{not-suc-le-zero, le-of-suc-le-suc}
+use mathlib.Core.Path.{_≡_, refl, sym, ap, ap₂, _∙_, subst}
+use mathlib.Core.Bool.{true, false}
+use mathlib.Core.List.{List, [], _∷_, _++_, map, map-append, map-map, List·Memᴰ, List·Memᴰ·head, List·Memᴰ·tail}
+use lib.ListN.{length, take, drop, getD, length-map}
+use lib.Seq.{drop-cons, getD-drop, getD-append-add}
+use borrow.Author.Tests.{eqb-true}
+use Rattle.hgn.specs.Lists.{keep, upTo, parts}
+use Rattle.hgn.specs.Rows.{Row, row, has, mostRows}
+use Rattle.hgn.specs.Tag as Tag
+use Rattle.hgn.specs.Meaning.{Action, Method, opens, headed, literals, firstValue, nodeOf, nodesOf, actionOf, methodOf, networkOf}
+use Rattle.hgn.specs.Run.{noMethod, actionAt, methodAt}
+use Rattle.hgn.specs.Shop.{sizeWords, rowCount, actionCount, methodCount, shopRows, domain}
+use Rattle.sheet_check.proofs.Lookup.{rows-at}
+use Rattle.hgn.proofs.Checked.{length-lastAfterAll, shop-counts, kept, method-nodes}
+use Rattle.hgn.proofs.Methods.{needs-first, goal-of-last}
+use Rattle.sheet_rows.specs.declared.position.Sheet.the-variants as Of
+use Rattle.sheet_index.specs.Index.{starts, ends, startsIn, span, spanOf, spanRows}
+use Rattle.sheet_index.proofs.Spans.{upto-upto, span-upto, bounds, block-first, block-ends, block-until, block-span, part-span, part-end, block-nodes}
+use Rattle.sheet_index.proofs.Indexed.{actions-length, methods-length, shop-length, blocks-in-order, blocks-count, action-span, method-span}
+use Rattle.sheet_index.specs.Tables.{Indexed, Bounds, nodeAt, MethodAt}
+use Rattle.sheet_index.specs.declared.operators.MethodRows.{MethodRows}
+use Rattle.sheet_index.proofs.NodeParts.{walk-nodes}
+use Rattle.sheet_index.proofs.Tables.{shop-passes, ends-fit, end-at, start-at, rows-of, indexable}
+
+module _ {A : Type 0} where
+  getD-mem : (l : List A) (i : ℕ) (d : A) → i < length l → List·Memᴰ (getD l i d) l
+  getD-mem [] i d h = absurd (not-suc-le-zero h)
+  getD-mem (x ∷ l) zero d h = List·Memᴰ·head refl
+  getD-mem (x ∷ l) (suc i) d h = List·Memᴰ·tail (getD-mem l i d (le-of-suc-le-suc h))
+
+  span-cons : (xs : List A) (n e : ℕ) (d : A) → n < length xs → n < e → span xs n e ≡ getD xs n d ∷ span xs (suc n) e
+  unfolding span
+  span-cons xs n e d h l = let k : e - n ≡ suc (e - suc n) = omega arith in rw (k, drop-cons xs n d h)
+
+-- The first row of a span.
+first-of-span : (rows : List Row) (a e : ℕ) → a < e → e ≤ length rows → firstValue (span rows a e) ≡ getD rows a (row 0 0) .value
+unfolding span firstValue
+first-of-span rows a e h l =
+    ap₂ {C = ℕ} (λ n xs. firstValue (take n xs)) (let d : e - a ≡ suc (e - suc a) = omega arith in d) (drop-cons rows a (row 0 0) (omega arith))
+
+-- The rows of a node of the shop sheet.
+abbrev pub boundRows : List ℕ → List ℕ → Bounds → List Row
+boundRows shop order b = spanRows shop order (spanOf Of.Shop (b .from) (b .to))
+
+-- A method has as many nodes as the walk along its rows.
+module _ {shop order table : List ℕ} {m : ℕ} {r : MethodRows} (a : MethodAt shop order table m r) where
+  pub method-size : length (networkOf (methodAt (domain shop) m)) ≡ length (a .bs)
+  unfolding networkOf
+  method-size = length-lastAfterAll 0 (methodAt (domain shop) m .nodes) ∙ ap length (sym (a .nodes)) ∙ length-map (a .bs) (nodeAt shop order Of.Shop)
+
+module _ {shop order table : List ℕ} (ix : Indexed shop order table) where
+  abbrev rows : List Row
+  rows = shopRows shop
+
+  -- Action or method `b`, from its start up to the next, as the code reads the table.
+  module _ (b : ℕ) (h : b < actionCount shop + methodCount shop) where
+    pub operator-in-table : mostRows + b + 1 < length table
+    operator-in-table = omega (arith, indexable ix .room)
+
+    pub operator-read : spanRows shop order (spanOf Of.Shop (getD table (mostRows + b) 0) (getD table (mostRows + b + 1) 0)) ≡ getD (parts opens rows) b []
+    operator-read =
+        let w = block-ends rows b (omega (arith, blocks-count shop (shop-passes ix))) in
+        let from-is : getD table (mostRows + b) 0 ≡ getD (bounds rows) b 0 = sym (getD-drop mostRows table b 0) ∙ start-at ix b (omega arith) in
+        let to-is : getD table (mostRows + b + 1) 0 ≡ getD (bounds rows) (suc b) 0 =
+        ap (λ (i : ℕ). getD table i 0) {x = mostRows + b + 1} {y = mostRows + suc b} (omega arith) ∙ sym (getD-drop mostRows table (suc b) 0) ∙ start-at ix (suc b) (omega arith) in
+        rw (from-is, to-is) (rows-of ix _ _ (omega arith) (w .1) ∙ sym (block-span rows b (omega (arith, blocks-count shop (shop-passes ix)))))
+
+  -- Action `k`, from its start up to the next, as the code reads the table.
+  module _ (k : ℕ) (low : 1 ≤ k) (high : k ≤ actionCount shop) where
+    block : k - 1 < length (starts 0 rows)
+    block = omega (arith, blocks-count shop (shop-passes ix))
+
+    start-is : (at : ℕ) → at ≡ mostRows + (k - 1) → getD table at 0 ≡ getD (bounds rows) (k - 1) 0
+    start-is at e = ap (λ (i : ℕ). getD table i 0) e ∙ sym (getD-drop mostRows table (k - 1) 0) ∙ start-at ix (k - 1) (omega arith)
+
+    end-is : getD table (mostRows + k) 0 ≡ getD (bounds rows) (suc (k - 1)) 0
+    end-is =
+        sym (getD-drop mostRows table k 0)
+        ∙ start-at ix k (omega arith)
+        ∙ ap (λ (i : ℕ). getD (bounds rows) i 0) {x = k} {y = suc (k - 1)} (omega arith)
+
+    pub action-in-table : mostRows + k < length table
+    action-in-table = omega (arith, indexable ix .room)
+
+    pub action-read : (at : ℕ) → at ≡ mostRows + (k - 1)
+        → actionAt (domain shop) k ≡ actionOf (spanRows shop order (spanOf Of.Shop (getD table at 0) (getD table (mostRows + k) 0)))
+    action-read at e =
+        let w = block-ends rows (k - 1) block in
+        action-span shop (shop-passes ix) (k - 1) (omega arith)
+        ∙ ap actionOf (sym (rows-of ix _ _ (omega arith) (w .1)))
+        ∙ rw (← start-is at e, ← end-is) refl
+
+    pub start-below : (at : ℕ) → at ≡ mostRows + (k - 1) → getD table at 0 < rowCount shop
+    start-below at e = omega (arith, start-is at e, block-first rows (k - 1) block .0, shop-length shop (shop-passes ix))
+
+    -- Its cost is the value of the row at which it starts.
+    pub cost-read : (at : ℕ) → at ≡ mostRows + (k - 1) → getD shop (sizeWords + rowCount shop + getD table at 0) 0 ≡ actionAt (domain shop) k .cost
+    unfolding actionOf shopRows
+    cost-read at e =
+        let w = block-ends rows (k - 1) block in
+        sym (ap (λ (a : Action). a .cost) (action-span shop (shop-passes ix) (k - 1) (omega arith))
+        ∙ first-of-span rows (getD (bounds rows) (k - 1) 0) (getD (bounds rows) (suc (k - 1)) 0) (w .0) (w .1)
+        ∙ ap (λ (r : Row). r .value) (ap (λ (a : ℕ). getD rows a (row 0 0)) (sym (start-is at e))
+        ∙ rows-at sizeWords (rowCount shop) shop (indexable ix .fits) (getD table at 0) (start-below at e)))
+
+  module _ (m : ℕ) (h : m < methodCount shop) where
+    abbrev methods : List (List Row)
+    methods = keep (headed Tag.method) (parts opens rows)
+
+    abbrev actions : List (List Row)
+    actions = keep (headed Tag.action) (parts opens rows)
+
+    abbrev b : ℕ
+    b = actionCount shop + m
+
+    abbrev from : ℕ
+    from = getD (bounds rows) b 0
+
+    abbrev to : ℕ
+    to = getD (bounds rows) (suc b) 0
+
+    abbrev first : ℕ
+    first = getD (ends 0 rows) from 0
+
+    inside : b < length (starts 0 rows)
+    inside = omega (arith, blocks-count shop (shop-passes ix))
+
+    block-is : getD methods m [] ≡ span rows from to
+    block-is =
+        sym (getD-append-add actions methods m [])
+        ∙ ap (λ (k : ℕ). getD (actions ++ methods) (k + m) []) (actions-length shop (shop-passes ix))
+        ∙ ap (λ (l : List (List Row)). getD l b []) (blocks-in-order shop (shop-passes ix))
+        ∙ block-span rows b inside
+
+    block-kept : (headed Tag.method (span rows from to) ≡ true) × List·Memᴰ (span rows from to) (parts opens rows)
+    block-kept =
+        subst (λ (l : List Row). (headed Tag.method l ≡ true) × List·Memᴰ l (parts opens rows)) block-is
+        (kept (headed Tag.method) (parts opens rows) (getD-mem methods m [] (omega (arith, methods-length shop (shop-passes ix)))))
+
+    method-in : List·Memᴰ (methodAt (domain shop) m) (domain shop .methods)
+    method-in = getD-mem (domain shop .methods) m noMethod (omega (arith, shop-counts shop (shop-passes ix) .1))
+
+    ends-first : upTo (has Tag.node) (span rows from to) ≡ span rows from first
+    unfolding upTo headed
+    ends-first =
+        let f = block-first rows b inside in
+        let l = block-ends rows b inside in
+        let split = span-cons rows from to (row 0 0) (f .0) (l .0) in
+        let two = eqb-true (getD rows from (row 0 0) .tag) Tag.method (rw split at (block-kept .0)) in
+        let no : has Tag.node (getD rows from (row 0 0)) ≡ false = rw two refl in
+        ap (upTo (has Tag.node)) split
+        ∙ rw no (ap {B = List Row} (λ l. getD rows from (row 0 0) ∷ upTo (has Tag.node) l) (span-upto rows (suc from) opens to (block-until rows b inside))
+        ∙ ap {B = List Row} (λ l. getD rows from (row 0 0) ∷ l) (upto-upto opens (has Tag.node) (drop (suc from) rows))
+        ∙ part-span rows from (f .0))
+
+    abbrev here : MethodRows
+    here = record { from = record { 0 = from }; first = record { 0 = first }; end = record { 0 = to } }
+
+    method-here : MethodAt shop order table m here
+    unfolding methodOf nodesOf networkOf
+    method-here =
+        let f = block-first rows b inside in
+        let l = block-ends rows b inside in
+        let p = part-end rows from (f .0) in
+        let n = block-nodes rows b inside in
+        let w = walk-nodes rows table (ends-fit ix) (end-at ix) (boundRows shop order) (rows-of ix) first to (l .1) (n .1) in
+        let is = method-span shop (shop-passes ix) m h in
+        let whole : parts (has Tag.node) (span rows from to) ≡ map (boundRows shop order) (w .list) = n .0 ∙ sym (w .same) in
+        let nodes : map (nodeAt shop order Of.Shop) (w .list) ≡ methodAt (domain shop) m .nodes =
+        sym (map-map nodeOf (boundRows shop order) (w .list)) ∙ ap (map nodeOf) (sym whole) ∙ ap (λ (x : Method). x .nodes) (sym is) in
+        let size = method-nodes shop (shop-passes ix) (methodAt (domain shop) m) method-in in
+        let long : length (networkOf (methodAt (domain shop) m)) ≡ length (w .list) =
+        length-lastAfterAll 0 (methodAt (domain shop) m .nodes) ∙ ap length (sym nodes) ∙ length-map (w .list) (nodeAt shop order Of.Shop) in
+        record {
+          needs =
+              ap (literals Tag.needsTrue Tag.needsFalse) (rows-of ix from first (omega (arith, p .0)) (p .1) ∙ sym ends-first)
+              ∙ sym (needs-first shop (shop-passes ix) (span rows from to) (block-kept .1) (block-kept .0))
+              ∙ ap (λ (x : Method). x .needs) (sym is);
+          bs = w .list;
+          walk = w .walked;
+          nodes = nodes;
+          inside = omega (arith, l .1, shop-length shop (shop-passes ix), indexable ix .few);
+          some = omega (arith, long, size .0);
+          few = omega (arith, long, size .1);
+          goal = λ init last e.
+              goal-of-last shop (shop-passes ix) (span rows from to) (block-kept .1) (block-kept .0) (methodAt (domain shop) m) method-in is (map (boundRows shop order) init)
+              (boundRows shop order (record { from = last; to = to }))
+              (whole ∙ ap (map (boundRows shop order)) e ∙ map-append (boundRows shop order) init (record { from = last; to = to } ∷ []));
+        }
+
+    -- As the code reads the table, `k` the word that counts the actions.
+    module _ (k : ℕ) (e : k ≡ actionCount shop) where
+      from-is : getD table (mostRows + k + m) 0 ≡ from
+      from-is =
+          ap (λ (i : ℕ). getD table i 0) {x = mostRows + k + m} {y = mostRows + b} (omega (arith, e))
+          ∙ sym (getD-drop mostRows table b 0)
+          ∙ start-at ix b (omega arith)
+
+      to-is : getD table (mostRows + k + m + 1) 0 ≡ to
+      to-is =
+          ap (λ (i : ℕ). getD table i 0) {x = mostRows + k + m + 1} {y = mostRows + suc b} (omega (arith, e))
+          ∙ sym (getD-drop mostRows table (suc b) 0)
+          ∙ start-at ix (suc b) (omega arith)
+
+      pub ends-in-table : mostRows + k + m + 1 < length table
+      ends-in-table = omega (arith, e, indexable ix .room)
+
+      -- No sheet has more than 4,000 rows.
+      pub from-few : getD table (mostRows + k + m) 0 < mostRows
+      from-few = omega (arith, from-is, block-first rows b inside .0, shop-length shop (shop-passes ix), indexable ix .few)
+
+      first-is : getD table (getD table (mostRows + k + m) 0) 0 ≡ first
+      first-is = ap (λ (i : ℕ). getD table i 0) from-is ∙ end-at ix from (block-first rows b inside .0)
+
+      pub method-read : MethodAt shop order table m
+          (record {
+            from = record { 0 = getD table (mostRows + k + m) 0 };
+            first = record { 0 = getD table (getD table (mostRows + k + m) 0) 0 };
+            end = record { 0 = getD table (mostRows + k + m + 1) 0 };
+          })
+      method-read = rw (first-is, from-is, to-is) method-here

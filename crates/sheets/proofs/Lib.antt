@@ -1,3 +1,0 @@
--- Laws of the definitions in the shape that the code asks for.
-pub mod Checks
-pub mod CallDemands

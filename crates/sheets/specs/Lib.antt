@@ -1,4 +1,0 @@
--- How the code's answers stand for the definitions of `hgn`, and what is promised of them.
-pub mod Sizes
-pub mod Answers
-pub mod Demands

@@ -1,3 +1,0 @@
-// The checks of the three sheets. Document 01, "The three sheets" and "Questions". The definitions are those of `hgn`.
-pub mod check;
-pub mod sizes;

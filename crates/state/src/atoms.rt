@@ -1,0 +1,69 @@
+// States, as a set of atoms. Document 01, "How a derivation runs".
+use crate::part;
+use sheet_check::check::Shop;
+use sheet_rows::position::Atom;
+ghost use mathlib.Core.Path.{_≡_};
+ghost use mathlib.Core.List.{zipWith};
+ghost use Rattle.hgn.specs.Rows.{row, valuesOf};
+ghost use Rattle.hgn.specs.State.{emptyState, literalHolds, assign};
+
+// For each atom, whether it is in.
+pub struct State {
+    pub atoms: [bool; Shop::MOST_ATOMS as usize],
+}
+
+impl State {
+    pub fn empty() -> State
+        ensures { λ r. ⌜ r .atoms ≡ emptyState ⌝ }
+    {
+        State {
+            atoms: [false; Shop::MOST_ATOMS as usize],
+        }
+    }
+}
+
+// The literal, an atom and its sign, holds.
+pub fn holds(atoms: &[bool; Shop::MOST_ATOMS as usize], atom: Atom, sign: bool) -> bool
+    ensures { λ r. ⌜ r ≡ literalHolds (now (atoms .entry)) (record { sign = sign; atom = atom .0 }) ⌝ }
+{
+    let at = atom.0 as usize;
+    // As a slice: an array behind a reference does not tell a proof its length.
+    let list: &[bool] = atoms;
+    if at < list.len() {
+        return list[at] == sign;
+    }
+    false == sign
+}
+
+// The atoms in the values of the rows with this tag are put in (true) or taken out (false), where they stand.
+pub fn assign(atoms: &mut [bool], tags: &[u16], values: &[u16], tag: u16, to: bool)
+    ensures { λ _. ⌜ now (atoms .exit) ≡ assign to (valuesOf tag (zipWith row (now (tags .entry)) (now (values .entry)))) (now (atoms .entry)) ⌝ }
+{
+    let n = part::rows(tags, values);
+    let mut i = 0;
+    while i < n {
+        let row = i;
+        i += 1;
+        if tags[row] == tag {
+            let at = values[row] as usize;
+            if at < atoms.len() {
+                atoms[at] = to;
+            }
+        }
+    }
+}
+
+// A copy of the atoms in which those of the rows with this tag are put in (true) or taken out (false).
+pub fn assigned(
+    atoms: [bool; Shop::MOST_ATOMS as usize],
+    tags: &[u16],
+    values: &[u16],
+    tag: u16,
+    to: bool,
+) -> [bool; Shop::MOST_ATOMS as usize]
+    ensures { λ r. ⌜ r ≡ assign to (valuesOf tag (zipWith row (now (tags .entry)) (now (values .entry)))) atoms ⌝ }
+{
+    let mut next = atoms;
+    assign(&mut next, tags, values, tag, to);
+    next
+}

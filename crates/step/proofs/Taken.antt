@@ -1,0 +1,66 @@
+-- What the code's record comes to, from what the step in place comes to, and what holds of the record for the next step. Assumes nothing.
+use Prim.Native.Nat.{ℕ, _+_}
+use native.Mathlib.Numerals.{add-one}
+use mathlib.Core.Path.{_≡_, refl, sym, ap, subst, _∙_}
+use mathlib.Core.Logic.{_≢_}
+use mathlib.Core.List.{List}
+use Rattle.hgn.specs.Questions as Questions
+use Rattle.hgn.specs.Questions.{passed, told}
+use Rattle.hgn.specs.State.{State}
+use Rattle.hgn.specs.Run as Run
+use Rattle.hgn.specs.Run.{Step, stepped}
+use Rattle.hgn.specs.Replay.{rulesOf}
+use Rattle.sheet_rows.specs.Refusals.{refusalOf}
+use Rattle.sheet_rows.specs.declared.refusal.Refusal.{Refusal}
+use Rattle.step.specs.Steps.{problemIn, Comes, Is}
+use Rattle.step.specs.Taking.{Kept, Going, Took}
+use Rattle.step.specs.declared.moves.Move.{Move}
+use Rattle.step.specs.declared.problem.Problem.{Problem}
+use Rattle.step.specs.declared.problem.Stepped as Code
+use Rattle.step.specs.declared.questions.Decision.{Decision}
+use Rattle.step.specs.declared.questions.Decision.the-variants.{Refused, Takes}
+use Rattle.network.specs.Reaching.{ReachedAt}
+use Rattle.network.proofs.Reaching.{reached-next}
+use Rattle.step.proofs.Bodies.{refused-numbered}
+
+-- The step in place, at the atoms and the words of the record `b`, left these.
+module _ (shop order : List ℕ) (n : ℕ) (x : Step) (b : Problem) (d : Decision) (s : State) (ws : List ℕ)
+    (took : Took shop order n x (b .atoms) (b .waiting) d s ws) where
+  pub step-refused : {q : Refusal} {r : Code.Stepped} → Kept shop order (b .waiting) → d ≡ Refused q → (r .refusal ≡ q) × (r .problem ≡ b)
+      → Is shop order (stepped (rulesOf shop) n (problemIn shop order b) x) b r
+  step-refused {r = r} kept e t =
+      let c = subst (λ (v : Decision). Took shop order n x (b .atoms) (b .waiting) v s ws) e took .0 in
+      record {
+        comes-to = subst (λ o. Comes shop order o r) (sym c) (ap refusalOf (t .0), refused-numbered (rulesOf shop) n (problemIn shop order b) x _ c);
+        unchanged = λ z. t .1;
+        kept = subst (λ (p : Problem). Kept shop order (p .waiting)) (sym (t .1)) kept;
+      }
+
+  pub step-taken : {m : Move} {r : Code.Stepped} → d ≡ Takes m → refusalOf (r .refusal) ≡ told passed → r .problem ≡ record { atoms = s; waiting = ws }
+      → Is shop order (stepped (rulesOf shop) n (problemIn shop order b) x) b r
+  step-taken {r = r} e z p =
+      let t = subst (λ (v : Decision). Took shop order n x (b .atoms) (b .waiting) v s ws) e took in
+      record {
+        comes-to = subst (λ o. Comes shop order o r) (sym (t .comes)) (z, ap (problemIn shop order) p);
+        unchanged = λ y. absurd (y (ap (λ (q : Questions.Refusal). q .number) z));
+        kept = subst (λ (c : Problem). Kept shop order (c .waiting)) (sym p) (t .kept);
+      }
+
+-- What holds of the record after a step, for the next: a step that is taken is counted, one that is refused isn't.
+module _ {shop order : List ℕ} {n : ℕ} (x : Step) {b : Problem} {r : Code.Stepped} (going : Going shop order n (b .atoms) (b .waiting))
+    (is : Is shop order (stepped (rulesOf shop) n (problemIn shop order b) x) b r) where
+  pub going-taken : r .refusal .number ≡ 0 → Going shop order (n + 1) (r .problem .atoms) (r .problem .waiting)
+  going-taken z = go (stepped (rulesOf shop) n (problemIn shop order b) x) refl (is .comes-to)
+    where
+      go : (o : Run.Stepped) → stepped (rulesOf shop) n (problemIn shop order b) x ≡ o → Comes shop order o r
+          → Going shop order (n + 1) (r .problem .atoms) (r .problem .waiting)
+      go (Run.refused q) e c = absurd (c .1 (sym (ap (λ (k : Questions.Refusal). k .number) (c .0)) ∙ z))
+      go (Run.taken deed P) e c = record {
+        kept = is .kept;
+        reached =
+            subst (λ (k : ℕ). ReachedAt shop order k (problemIn shop order (r .problem))) (sym (add-one n))
+            (subst (ReachedAt shop order _) (sym (c .1)) (reached-next x (going .reached) e));
+      }
+
+  pub going-refused : r .refusal .number ≢ 0 → Going shop order n (r .problem .atoms) (r .problem .waiting)
+  going-refused z = subst (λ (p : Problem). Going shop order n (p .atoms) (p .waiting)) (sym (is .unchanged z)) going

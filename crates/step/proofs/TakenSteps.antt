@@ -1,0 +1,83 @@
+-- A step that is taken where state and waiting goals stand: what is seen, and what each move leaves. Assumes nothing.
+use Prim.Native.Nat.{ℕ, _+_, _<_}
+use native.Mathlib.Omega.{arith}
+use native.Mathlib.Numerals.{add-one}
+use mathlib.Core.Path.{_≡_, refl, sym, ap, subst, _∙_}
+use mathlib.Core.List.{List}
+use Rattle.hgn.specs.State.{State, γ}
+use Rattle.hgn.specs.Network as Network
+use Rattle.hgn.specs.Run as Run
+use Rattle.hgn.specs.Run.{moved, deedOf, taken, actionAt}
+use Rattle.hgn.specs.Shop.{domain}
+use Rattle.hgn.proofs.Steps.{took}
+use Rattle.network.specs.Entries.{waitingOf}
+use Rattle.network.specs.declared.goals.Seen.{Seen}
+use Rattle.step.specs.Moves.{knownOf}
+use Rattle.step.specs.Deciding.{SeenIn, Room, Taking}
+use Rattle.step.specs.declared.moves.Move.{Move}
+use Rattle.step.specs.declared.moves.Choice.{Choice}
+use Rattle.step.specs.declared.moves.Move.the-variants.{Release, Act, Use}
+use Rattle.network.specs.Goals.{countIn, listIn, Left, Decomposed, LookedAt}
+use Rattle.network.specs.Reaching.{ReachedAt}
+use Rattle.network.proofs.WaitingGoals.{list-length, list-at, free-at}
+use Rattle.network.proofs.Reaching.{reached-next}
+use Rattle.step.specs.Taking.{problemWith, Kept, Going, MayApply, Applied, TakenBy}
+
+module _ (shop order : List ℕ) (s : State) (ws : List ℕ) (kept : Kept shop order ws) where
+  -- What is seen at a place.
+  pub seen-at : (p : ℕ) (seen : Seen) {count : ℕ} → count ≡ countIn ws → (p < countIn ws → LookedAt ws p seen) → SeenIn shop order s count seen (problemWith shop order s ws) p
+  seen-at p seen c look = record {
+    state = refl;
+    size = list-length shop order ws ∙ sym c;
+    goal = λ h.
+        let below : p < countIn ws = omega arith in
+        list-at shop order ws p below ∙ ap (waitingOf shop order) (sym (look below .goal));
+    free-is = λ h.
+        let below : p < countIn ws = omega arith in
+        look below .free ∙ free-at shop order ws (kept .within) (kept .counted) p below;
+  }
+
+  -- What each move leaves.
+  module _ (n : ℕ) (x : Choice) where
+    pub applied-release : x .mv ≡ Release → {ws′ : List ℕ} → Left shop order (x .place .0) ws ws′ → Applied shop order n x s ws s ws′
+    unfolding moved
+    applied-release e l = record {
+      leaves = rw e (ap (λ (w : List Network.Waiting). record { state = s; waiting = w }) (l .list));
+      kept = record { within = l .within; counted = l .counted };
+    }
+
+    pub applied-action : {k : ℕ} → x .mv ≡ Act k → {s′ : State} → s′ ≡ γ s (actionAt (domain shop) k .effects) → Applied shop order n x s ws s′ ws
+    unfolding moved
+    applied-action e z = record { leaves = rw e (ap (λ (x : State). record { state = x; waiting = listIn shop order ws }) z); kept = kept }
+
+    pub applied-method : {k : ℕ} → x .mv ≡ Use k → {ws′ : List ℕ} → Decomposed shop order (x .place .0) n k ws ws′ → Applied shop order n x s ws s ws′
+    unfolding moved
+    applied-method e l = record {
+      leaves = rw e (ap (λ (w : List Network.Waiting). record { state = s; waiting = w }) (l .list));
+      kept = record { within = l .within; counted = l .counted };
+    }
+
+-- A step that may be taken.
+module _ (shop order : List ℕ) (n : ℕ) (s : State) (ws : List ℕ) {mv : ℕ} (x : Choice) (may : Taking shop (problemWith shop order s ws) mv (x .place .0) (x .mv)) where
+  pub taking-may : MayApply shop order x ws
+  taking-may = record {
+    inside = omega (arith, may .inside, list-length shop order ws);
+    known = may .known;
+    room = subst (λ (k : ℕ). Room (domain shop) k (x .mv)) (list-length shop order ws) (may .room);
+    is-free = took _ _ _ (may .comes n) .is-free;
+  }
+
+  pub taken-by : {s′ : State} {ws′ : List ℕ} → Applied shop order n x s ws s′ ws′ → TakenBy shop order n (record { move = mv; place = x .place .0 }) (x .mv) s ws s′ ws′
+  taken-by a = record {
+    known = may .known;
+    comes = may .comes n ∙ ap (taken (deedOf (problemWith shop order s ws) (x .place .0) (knownOf (x .mv)))) (sym (a .leaves));
+    kept = a .kept;
+  }
+
+-- What holds of the next step.
+pub going-next : {shop order : List ℕ} {n : ℕ} {x : Run.Step} {m : Move} {s : State} {ws : List ℕ} {s′ : State} {ws′ : List ℕ} → Going shop order n s ws
+    → TakenBy shop order n x m s ws s′ ws′ → Going shop order (n + 1) s′ ws′
+going-next {shop} {order} {n} {x} {s′ = s′} {ws′ = ws′} g a = record {
+  kept = a .kept;
+  reached = subst (λ (k : ℕ). ReachedAt shop order k (problemWith shop order s′ ws′)) (sym (add-one n)) (reached-next x (g .reached) (a .comes));
+}

@@ -1,0 +1,92 @@
+-- A method's three questions, from its rows (`MethodAt`). Assumes nothing.
+use native.Mathlib.Omega.{arith}
+use mathlib.Core.Path.{_≡_, refl, ap, _∙_}
+use borrow.Author.Needs.{needs}
+use Rattle.hgn.specs.Tag as Tag
+use Rattle.hgn.specs.Meaning.{literals, nodeOf}
+use Rattle.hgn.specs.State.{allHold, relevant}
+use Rattle.sheet_rows.specs.declared.position.Sheet.the-variants as Of
+use Rattle.sheet_index.specs.Index.{spanOf, spanRows}
+use Rattle.sheet_index.specs.Tables.{MethodAt}
+use Rattle.sheet_index.specs.declared.index.Span.{Span}
+use Rattle.step.proofs.Decided.{method-unable, method-irrelevant, method-may, method-crowded}
+use Rattle.step.proofs.questions.of_method.Statement.{statement}
+use Rattle.step.proofs.questions.of_method.Tie as tie
+
+-- Once the needs are asked.
+module _ (c : tie.After-needs-hold) where
+  abbrev start : tie.Start
+  start = c .before .before .before .before .before .before
+
+  at : MethodAt (start .args .shop .now) (start .args .order .now) (start .args .tables .now) (start .args .method) (c .before .before .method-rows .result)
+  at = c .before .before .method-rows .ensures _ (start .pre .0)
+
+  asked : c .needs-hold .result
+      ≡ allHold (start .args .atoms .now) (literals Tag.needsTrue Tag.needsFalse (spanRows (start .args .shop .now) (start .args .order .now)
+      (spanOf Of.Shop (c .before .before .method-rows .result .from .0) (c .before .before .method-rows .result .first .0))))
+  asked =
+      c .needs-hold .ensures
+      ∙ ap (λ (x : Span). allHold (start .args .atoms .now) (literals Tag.needsTrue Tag.needsFalse (spanRows (start .args .shop .now) (start .args .order .now) x))) (c .before .of-shop .ensures)
+
+-- Once relevance is asked.
+module _ (c : tie.After-helps) where
+  abbrev needed : tie.After-needs-hold
+  needed = c .before .before .before .before
+
+  told : c .helps .result
+      ≡ relevant (literals Tag.wantedTrue Tag.wantedFalse (spanRows (start needed .args .shop .now) (start needed .args .order .now)
+      (spanOf Of.Shop (c .before .before .nodes-between .result .last .0) (needed .before .before .method-rows .result .end .0))))
+      (nodeOf (spanRows (start needed .args .shop .now) (start needed .args .order .now) (start needed .args .goal)) .formula)
+  told =
+      c .helps .ensures
+      ∙ ap (λ (x : Span). relevant (literals Tag.wantedTrue Tag.wantedFalse (spanRows (start needed .args .shop .now) (start needed .args .order .now) x))
+      (nodeOf (spanRows (start needed .args .shop .now) (start needed .args .order .now) (start needed .args .goal)) .formula)) (c .before .of-shop2 .ensures)
+
+pub of-method-spec : {M : Type 1} → statement M
+of-method-spec =
+    tie.close
+    (tie.spec
+    -- method-rows-requires
+    (λ c κs. search needs)
+    -- of-shop-requires
+    (λ c κs. search needs)
+    -- needs-hold-requires
+    (λ c κs. search needs)
+    -- nodes-between-requires
+    (λ c κs. let a = at (c .before) in (a .bs, a .walk, omega (arith, a .few)))
+    -- of-shop-requires-2
+    (λ c κs. search needs)
+    -- helps-requires
+    (λ c κs. search needs)
+    -- add-if3
+    (λ c.
+    let n = needed (c .before .before) in
+    let a = at n in
+    omega (arith, c .before .before .before .before .nodes-between .ensures (a .bs) (a .walk) .number, a .few, start n .pre .1))
+    -- none-requires
+    (λ c κs. search needs)
+    -- returns
+    (λ c.
+    let h = c .before .before .before .before in
+    method-may (at (needed h)) _ _ _ _ (asked (needed h)) (h .before .before .before .if1 .taken) refl _ (h .before .before .nodes-between .ensures) (told h)
+    (c .before .before .before .if2 .taken) refl (c .before .if3 .taken) (c .none .ensures))
+    -- by-requires
+    (λ c κs. search needs)
+    -- returns-2
+    (λ c.
+    let h = c .before .before .before .before in
+    method-crowded (at (needed h)) _ _ _ _ (asked (needed h)) (h .before .before .before .if1 .taken) refl _ (h .before .before .nodes-between .ensures) (told h)
+    (c .before .before .before .if2 .taken) refl (c .before .if3 .left) (c .by .ensures))
+    -- by-requires-2
+    (λ c κs. search needs)
+    -- returns-3
+    (λ c.
+    let h = c .before .before in
+    method-irrelevant (at (needed h)) _ _ _ _ (asked (needed h)) (h .before .before .before .if1 .taken) refl _ (h .before .before .nodes-between .ensures) (told h)
+    (c .before .if2 .left) refl (c .by2 .ensures))
+    -- by-requires-3
+    (λ c κs. search needs)
+    -- returns-4
+    (λ c.
+    let n = c .before .before in
+    method-unable (at n) _ _ _ _ (asked n) (c .before .if1 .left) refl (c .by3 .ensures)))

@@ -1,0 +1,75 @@
+-- What is decided of a step before anything changes. Document 01, "Questions".
+use Prim.Native.Nat.{ℕ, _+_, _<_, _≤_}
+use mathlib.Core.Path.{_≡_}
+use mathlib.Core.Bool.{false, cond}
+use mathlib.Core.List.{List}
+use lib.Dec.{eqb}
+use lib.ListN.{length}
+use Rattle.hgn.specs.Questions as Questions
+use Rattle.hgn.specs.Questions.{_asks_, firstNo, told}
+use Rattle.hgn.specs.Meaning as Meaning
+use Rattle.hgn.specs.Meaning.{Domain, nodeOf, networkOf}
+use Rattle.hgn.specs.State.{State}
+use Rattle.hgn.specs.Network as Network
+use Rattle.hgn.specs.Network.{mostWaiting, goalAt, free, anyFree}
+use Rattle.hgn.specs.Run as Run
+use Rattle.hgn.specs.Run.{Problem, actionAt, methodAt, ownQuestions, deedOf, moved, refused, taken, stepped}
+use Rattle.hgn.specs.Shop.{domain, actionCount, methodCount}
+use Rattle.hgn.specs.Replay.{rulesOf}
+use Rattle.sheet_rows.specs.Refusals.{refusalOf}
+use Rattle.sheet_rows.specs.declared.refusal.Refusal.{Refusal}
+use Rattle.sheet_index.specs.declared.index.Span.{Span}
+use Rattle.sheet_index.specs.Index.{spanRows}
+use Rattle.network.specs.Entries.{waitingOf}
+use Rattle.step.specs.Moves.{Known, knownOf}
+use Rattle.network.specs.declared.goals.Seen.{Seen}
+use Rattle.step.specs.declared.moves.Move.{Move}
+use Rattle.step.specs.declared.moves.Move.the-variants.{Release, Act, Use}
+use Rattle.step.specs.declared.questions.Decision.{Decision}
+use Rattle.step.specs.declared.questions.Decision.the-variants.{Refused, Takes}
+
+-- The problem has this state, so many goals wait in it, and the goal at place `p` has these rows.
+pub record Faces (shop order : List ℕ) (s : State) (goal : Span) (count : ℕ) (P : Problem) (p : ℕ) : Type 0 where
+  pub state : P .state ≡ s
+  pub formula : goalAt (P .waiting) p .formula ≡ nodeOf (spanRows shop order goal) .formula
+  pub size : length (P .waiting) ≡ count
+
+-- The refusal is the first no of the move's own questions, in whatever step and of whatever problem that this goal faces.
+abbrev pub Answers : List ℕ → List ℕ → State → Span → ℕ → Run.Move → Refusal → Type 0
+Answers shop order s goal count m r = (n : ℕ) (P : Problem) (p : ℕ) → Faces shop order s goal count P p
+    → refusalOf r ≡ told (firstNo (ownQuestions (rulesOf shop) n P p m))
+
+-- The first no of the own questions of an action with these rows is told, whatever the action's number.
+abbrev pub OfAction : List ℕ → List ℕ → State → Span → Span → Refusal → Type 0
+OfAction shop order s rows goal r = (k count : ℕ) → actionAt (domain shop) k ≡ Meaning.actionOf (spanRows shop order rows)
+    → Answers shop order s goal count (Run.act k) r
+
+-- 27 for 28 where no waiting goal is free.
+abbrev pub toldOf : List Network.Waiting → Questions.Refusal → Questions.Refusal
+toldOf w q = cond (eqb (q .number) 28) (cond (anyFree w) q ((27 asks false) .refusal)) q
+
+-- What was seen at a place of a problem with this state and so many goals.
+pub record SeenIn (shop order : List ℕ) (s : State) (count : ℕ) (seen : Seen) (P : Problem) (p : ℕ) : Type 0 where
+  pub state : P .state ≡ s
+  pub size : length (P .waiting) ≡ count
+  pub goal : p < count → goalAt (P .waiting) p ≡ waitingOf shop order (seen .goal)
+  pub free-is : p < count → seen .free ≡ free (P .waiting) (goalAt (P .waiting) p)
+
+-- A method leaves at most 64 waiting.
+abbrev pub Room : Domain → ℕ → Move → Type 0
+Room d count Release = Unit {0}
+Room d count (Act k) = Unit {0}
+Room d count (Use m) = count + length (networkOf (methodAt d m)) ≤ mostWaiting
+
+pub record Taking (shop : List ℕ) (P : Problem) (move p : ℕ) (m : Move) : Type 0 where
+  pub inside : p < length (P .waiting)
+  pub known : Known (actionCount shop) (methodCount shop) m
+  pub room : Room (domain shop) (length (P .waiting)) m
+  pub comes : (n : ℕ) → stepped (rulesOf shop) n P (record { move = move; place = p })
+      ≡ taken (deedOf P p (knownOf m)) (moved (domain shop) n P p (knownOf m))
+
+-- The step comes to what was decided, at whatever number.
+abbrev pub Decides : List ℕ → Problem → ℕ → ℕ → Decision → Type 0
+Decides shop P move p (Refused q) =
+    (n : ℕ) → stepped (rulesOf shop) n P (record { move = move; place = p }) ≡ refused (toldOf (P .waiting) (refusalOf q))
+Decides shop P move p (Takes m) = Taking shop P move p m

@@ -1,0 +1,46 @@
+// What a move's number reads as. Document 01, "How a derivation runs".
+use network::waiting::Place;
+ghost use mathlib.Core.Path.{_≡_};
+ghost use Rattle.step.specs.Moves.{readOf, moveRead};
+
+pub enum Move {
+    Release,
+    // An action by its number, from 1.
+    Act(u16),
+    // A method by its number, from 0.
+    Use(u16),
+}
+
+// A move at the goal of a place.
+pub struct Choice {
+    pub mv: Move,
+    pub place: Place,
+}
+
+pub enum Read {
+    Is(Move),
+    Unreadable,
+}
+
+impl Move {
+    // The move that stands for method 0.
+    pub const FIRST_METHOD: u16 = 256;
+
+    // A move by its number in a shop of so many actions and methods.
+    pub fn read(number: u16, actions: u16, methods: u16) -> Read
+        ensures { λ r. ⌜ readOf r ≡ moveRead number actions methods ⌝ }
+    {
+        if number == 0 {
+            return Read::Is(Move::Release);
+        }
+        if number <= actions {
+            return Read::Is(Move::Act(number));
+        }
+        if Self::FIRST_METHOD <= number {
+            if number - Self::FIRST_METHOD < methods {
+                return Read::Is(Move::Use(number - Self::FIRST_METHOD));
+            }
+        }
+        Read::Unreadable
+    }
+}

@@ -1,6 +1,0 @@
-// One step on checked sheets: moves and their questions. Document 01, "How a derivation runs" and "Questions".
-pub mod moves;
-pub mod problem;
-pub mod questions;
-pub mod step;
-pub mod taking;
