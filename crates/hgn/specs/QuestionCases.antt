@@ -1,5 +1,7 @@
--- A case for each question of document 01, "Questions": sheets at which it is answered no, and where that can be the question behind it too,
--- with the number and the place that are told. Then replays and searches that tell apart what the marked cases do not.
+-- A case for each question of document 01, "Questions", but 27: sheets at which it is answered no, and where that can be the question behind
+-- it too, with the number and the place that are told. Then replays and searches that tell apart what the marked cases do not. 27 has none:
+-- the first goal of every list that a replay comes to is free, since a node is listed after lower ones only and a method's nodes enter before
+-- their goal.
 use Prim.Native.Nat.{ℕ, zero, suc}
 use mathlib.Core.Path.{_≡_}
 use mathlib.Core.List.{List, [], _∷_, _++_, map}
@@ -125,9 +127,11 @@ acceptedCase shop order trace steps atoms count cost room = record {
 
 abbrev pub stepCases : List Case
 stepCases =
+    -- 13 steps in a room of 12 words, the first past the last place: 24 before 25.
+    coreRefused ((13 ∷ []) ++ repeated 13 (0 ∷ []) ++ repeated 13 (9 ∷ [])) 24 0
     -- Step 1, behind method 0: past the last place, by an unknown move: 25 before 26. At place 4, which is not free, by an unknown move: 26
     -- before 28. There by action 2, whose needs do not hold: 28 before 30.
-    coreRefused ((2 ∷ []) ++ (256 ∷ 5 ∷ []) ++ (0 ∷ 9 ∷ [])) 25 1
+    ∷ coreRefused ((2 ∷ []) ++ (256 ∷ 5 ∷ []) ++ (0 ∷ 9 ∷ [])) 25 1
     ∷ coreRefused ((2 ∷ []) ++ (256 ∷ 5 ∷ []) ++ (0 ∷ 4 ∷ [])) 26 1
     ∷ coreRefused ((2 ∷ []) ++ (256 ∷ 2 ∷ []) ++ (0 ∷ 4 ∷ [])) 28 1
     -- Action 2, whose needs do not hold, and which is not relevant to atom 3: 30 before 31.
