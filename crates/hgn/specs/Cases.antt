@@ -19,7 +19,7 @@ pub record Case : Type 0 where
   pub cost : ℕ
   pub room : List ℕ
 
--- The room that every case lends: one word more than the longest trace has steps.
+-- The room that every case lends: one word more than the longest marked trace has steps.
 abbrev pub lent : List ℕ
 lent = 90 ∷ 91 ∷ 92 ∷ 93 ∷ 94 ∷ 95 ∷ 96 ∷ 97 ∷ 98 ∷ 99 ∷ 100 ∷ 101 ∷ []
 

@@ -23,6 +23,6 @@ pub mod Written
 pub mod Definition1
 pub mod Readings
 pub mod Demands
--- "One core of sixty centimetres": the marked cases; and a case for each question.
+-- "One core of sixty centimetres": the marked cases; and a case for each question but 27.
 pub mod Cases
 pub mod QuestionCases

@@ -1,7 +1,7 @@
 -- A case for each question of document 01, "Questions", but 27: sheets at which it is answered no, and where that can be the question behind
 -- it too, with the number and the place that are told. Then replays and searches that tell apart what the marked cases do not. 27 has none:
--- the first goal of every list that a replay comes to is free, since a node is listed after lower ones only and a method's nodes enter before
--- their goal.
+-- a node is listed after lower ones only and a method's nodes enter before their goal, so the first goal of every list that a replay comes to
+-- is free, which is not proved here.
 use Prim.Native.Nat.{ℕ, zero, suc}
 use mathlib.Core.Path.{_≡_}
 use mathlib.Core.List.{List, [], _∷_, _++_, map}
@@ -26,9 +26,14 @@ ofShop shop number place = record { shop = shop; order = []; trace = []; number 
 abbrev pub ofOrder : List ℕ → ℕ → ℕ → SheetCase
 ofOrder order number place = record { shop = 1 ∷ 0 ∷ 0 ∷ 0 ∷ []; order = order; trace = []; number = number; place = place }
 
--- A shop of one atom and no rows, an order without goals, and a trace that is refused.
+-- A shop of one atom and no rows, an order without goals, and a trace.
 abbrev pub ofTrace : List ℕ → ℕ → ℕ → SheetCase
 ofTrace trace number place = record { shop = 1 ∷ 0 ∷ 0 ∷ 0 ∷ []; order = 1 ∷ 0 ∷ 0 ∷ []; trace = trace; number = number; place = place }
+
+-- These words so many times.
+unfoldable pub repeated : ℕ → List ℕ → List ℕ
+repeated zero words = []
+repeated (suc n) words = words ++ repeated n words
 
 abbrev pub sheetCases : List SheetCase
 sheetCases =
@@ -40,11 +45,30 @@ sheetCases =
     ∷ ofShop ((1 ∷ 1 ∷ 0 ∷ 2 ∷ []) ++ (1 ∷ 7 ∷ []) ++ (0 ∷ 9 ∷ [])) 4 1
     ∷ ofShop ((1 ∷ 1 ∷ 0 ∷ 2 ∷ []) ++ (1 ∷ 3 ∷ []) ++ (0 ∷ 1 ∷ [])) 5 1
     ∷ ofShop ((1 ∷ 0 ∷ 1 ∷ 3 ∷ []) ++ (2 ∷ 3 ∷ 3 ∷ []) ++ (0 ∷ 0 ∷ 0 ∷ [])) 6 2
+    -- Row 2 does not rise, and the tag of row 3 is wrong: all questions of a row before those of the next.
+    ∷ ofShop ((1 ∷ 0 ∷ 1 ∷ 4 ∷ []) ++ (2 ∷ 3 ∷ 3 ∷ 1 ∷ []) ++ (0 ∷ 0 ∷ 0 ∷ 0 ∷ [])) 6 2
+    -- The first node is listed after itself; and so is the first node of the second method, since each method counts its own nodes.
+    ∷ ofShop ((1 ∷ 0 ∷ 1 ∷ 4 ∷ []) ++ (2 ∷ 7 ∷ 11 ∷ 8 ∷ []) ++ repeated 4 (0 ∷ [])) 5 2
+    ∷ ofShop ((1 ∷ 0 ∷ 2 ∷ 7 ∷ []) ++ (2 ∷ 7 ∷ 8 ∷ 2 ∷ 7 ∷ 11 ∷ 8 ∷ []) ++ repeated 7 (0 ∷ [])) 5 5
     -- It ends in a method's head, and M is 0: 7 before 8. M is 0, and the method has two alternatives at its end: 8 before 9.
     ∷ ofShop ((1 ∷ 0 ∷ 0 ∷ 1 ∷ []) ++ (2 ∷ 0 ∷ [])) 7 0
     ∷ ofShop ((1 ∷ 0 ∷ 0 ∷ 4 ∷ []) ++ (2 ∷ 7 ∷ 8 ∷ 8 ∷ []) ++ (0 ∷ 0 ∷ 0 ∷ 0 ∷ [])) 8 0
+    -- K is 1, and there is no action.
+    ∷ ofShop (1 ∷ 1 ∷ 0 ∷ 0 ∷ []) 8 0
+    -- A method's last node has an 11 row; a method has 64 nodes.
+    ∷ ofShop ((1 ∷ 0 ∷ 1 ∷ 6 ∷ []) ++ (2 ∷ 7 ∷ 8 ∷ 7 ∷ 11 ∷ 8 ∷ []) ++ repeated 6 (0 ∷ [])) 9 0
+    ∷ ofShop ((1 ∷ 0 ∷ 1 ∷ 129 ∷ []) ++ (2 ∷ repeated 64 (7 ∷ 8 ∷ [])) ++ repeated 129 (0 ∷ [])) 9 0
     -- The second of two methods has two alternatives at its end, and the order no words: 9 before 11.
     ∷ ofShop ((1 ∷ 0 ∷ 2 ∷ 7 ∷ []) ++ (2 ∷ 7 ∷ 8 ∷ 2 ∷ 7 ∷ 8 ∷ 8 ∷ []) ++ (0 ∷ 0 ∷ 0 ∷ 0 ∷ 0 ∷ 0 ∷ 0 ∷ [])) 9 1
+    -- The limits of F, K, M and N, and one more of each: what passes 2 is refused by a later question.
+    ∷ ofShop (256 ∷ 0 ∷ 0 ∷ 0 ∷ []) 11 0
+    ∷ ofShop (257 ∷ 0 ∷ 0 ∷ 0 ∷ []) 2 0
+    ∷ ofShop (1 ∷ 255 ∷ 0 ∷ 0 ∷ []) 8 0
+    ∷ ofShop (1 ∷ 256 ∷ 0 ∷ 0 ∷ []) 2 0
+    ∷ ofShop (1 ∷ 0 ∷ 255 ∷ 0 ∷ []) 8 0
+    ∷ ofShop (1 ∷ 0 ∷ 256 ∷ 0 ∷ []) 2 0
+    ∷ ofShop (1 ∷ 0 ∷ 0 ∷ 4000 ∷ []) 3 0
+    ∷ ofShop (1 ∷ 0 ∷ 0 ∷ 4001 ∷ []) 2 0
     -- No words: 11 before 12. Another F and a wrong length: 12 before 13. Length and a tag wrong: 13 before 14.
     ∷ ofOrder [] 11 0
     ∷ ofOrder (2 ∷ 0 ∷ 0 ∷ 0 ∷ []) 12 0
@@ -56,10 +80,15 @@ sheetCases =
     -- It ends in a node, and G is 2: 17 before 18. G is 1 of no goals, and the trace has no words: 18 before 21.
     ∷ ofOrder ((1 ∷ 2 ∷ 1 ∷ []) ++ (7 ∷ 0 ∷ [])) 17 0
     ∷ ofOrder (1 ∷ 1 ∷ 0 ∷ []) 18 0
-    -- No words. L 4,097 and a wrong length: 22 before 23. A wrong length. All pass.
+    -- The limits of G and N, and one more of each.
+    ∷ ofOrder (1 ∷ 64 ∷ 0 ∷ []) 18 0
+    ∷ ofOrder (1 ∷ 65 ∷ 0 ∷ []) 12 0
+    ∷ ofOrder (1 ∷ 0 ∷ 4000 ∷ []) 13 0
+    ∷ ofOrder (1 ∷ 0 ∷ 4001 ∷ []) 12 0
+    -- No words. L 4,097 and a wrong length: 22 before 23. L 4,096 and a wrong length. All pass.
     ∷ ofTrace [] 21 0
     ∷ ofTrace (4097 ∷ []) 22 0
-    ∷ ofTrace (1 ∷ []) 23 0
+    ∷ ofTrace (4096 ∷ []) 23 0
     ∷ ofTrace (0 ∷ []) 0 0
     ∷ []
 
@@ -69,11 +98,11 @@ toldOf c = told (checkTrace (c .shop) (c .order) (c .trace))
 abbrev pub refusalOf : SheetCase → Refusal
 refusalOf c = record { number = c .number; place = c .place }
 
--- Two atoms, atom 0 true at first. An action of cost 7 that needs atom 0 false and makes atom 1 true.
+-- Two atoms. An action of cost 7 that needs atom 0 false and makes atom 1 true.
 abbrev pub falseShop : List ℕ
 falseShop = (2 ∷ 1 ∷ 0 ∷ 3 ∷ []) ++ (1 ∷ 4 ∷ 5 ∷ []) ++ (7 ∷ 0 ∷ 1 ∷ [])
 
--- One goal: atom 1 true; or, in the second, atom 0 false.
+-- Atom 0 is true at first. One goal: atom 1 true; or, in the second, atom 0 false.
 abbrev pub wantTrue : List ℕ
 wantTrue = (2 ∷ 1 ∷ 4 ∷ []) ++ (12 ∷ 7 ∷ 8 ∷ 9 ∷ []) ++ (0 ∷ 0 ∷ 0 ∷ 1 ∷ [])
 
@@ -99,17 +128,50 @@ pairOrder = (4 ∷ 2 ∷ 6 ∷ []) ++ (7 ∷ 8 ∷ 9 ∷ 7 ∷ 8 ∷ 9 ∷ []) +
 abbrev pub fullShop : List ℕ
 fullShop = (1 ∷ 0 ∷ 1 ∷ 4 ∷ []) ++ (2 ∷ 7 ∷ 8 ∷ 9 ∷ []) ++ (0 ∷ 0 ∷ 0 ∷ 0 ∷ [])
 
--- These tags so many times.
-unfoldable pub repeated : ℕ → List ℕ → List ℕ
-repeated zero tags = []
-repeated (suc n) tags = tags ++ repeated n tags
-
--- 64 goals that want the atom true, and 64 that want nothing.
+-- An order of 64 goals that want the atom true; one of 63 such goals; and one of 64 goals that want nothing.
 abbrev pub fullOrder : List ℕ
 fullOrder = (1 ∷ 64 ∷ 192 ∷ []) ++ repeated 64 (7 ∷ 8 ∷ 9 ∷ []) ++ repeated 192 (0 ∷ [])
 
-abbrev pub emptyOrder : List ℕ
-emptyOrder = (1 ∷ 64 ∷ 128 ∷ []) ++ repeated 64 (7 ∷ 8 ∷ []) ++ repeated 128 (0 ∷ [])
+abbrev pub lessThanFullOrder : List ℕ
+lessThanFullOrder = (1 ∷ 63 ∷ 189 ∷ []) ++ repeated 63 (7 ∷ 8 ∷ 9 ∷ []) ++ repeated 189 (0 ∷ [])
+
+abbrev pub wantNothing : List ℕ
+wantNothing = (1 ∷ 64 ∷ 128 ∷ []) ++ repeated 64 (7 ∷ 8 ∷ []) ++ repeated 128 (0 ∷ [])
+
+-- One goal, atom 0 true, of one atom.
+abbrev pub wantOne : List ℕ
+wantOne = (1 ∷ 1 ∷ 3 ∷ []) ++ (7 ∷ 8 ∷ 9 ∷ []) ++ repeated 3 (0 ∷ [])
+
+-- A method that needs atom 0, for atom 0; and one that needs atom 0, for atom 1, with an order of one goal, atom 0.
+abbrev pub needingShop : List ℕ
+needingShop = (1 ∷ 0 ∷ 1 ∷ 5 ∷ []) ++ (2 ∷ 3 ∷ 7 ∷ 8 ∷ 9 ∷ []) ++ repeated 5 (0 ∷ [])
+
+abbrev pub needingOther : List ℕ
+needingOther = (2 ∷ 0 ∷ 1 ∷ 5 ∷ []) ++ (2 ∷ 3 ∷ 7 ∷ 8 ∷ 9 ∷ []) ++ (0 ∷ 0 ∷ 0 ∷ 0 ∷ 1 ∷ [])
+
+abbrev pub wantFirst : List ℕ
+wantFirst = (2 ∷ 1 ∷ 3 ∷ []) ++ (7 ∷ 8 ∷ 9 ∷ []) ++ (0 ∷ 0 ∷ 0 ∷ [])
+
+-- An action that makes atom 0 false, and a goal that wants it false, where it is true at first.
+abbrev pub clearShop : List ℕ
+clearShop = (1 ∷ 1 ∷ 0 ∷ 2 ∷ []) ++ (1 ∷ 6 ∷ []) ++ (0 ∷ 0 ∷ [])
+
+abbrev pub wantClear : List ℕ
+wantClear = (1 ∷ 1 ∷ 4 ∷ []) ++ (12 ∷ 7 ∷ 8 ∷ 10 ∷ []) ++ repeated 4 (0 ∷ [])
+
+-- An action that makes atom 0 true and atom 1 false, and a goal that wants both true.
+abbrev pub mixedShop : List ℕ
+mixedShop = (2 ∷ 1 ∷ 0 ∷ 3 ∷ []) ++ (1 ∷ 5 ∷ 6 ∷ []) ++ (0 ∷ 0 ∷ 1 ∷ [])
+
+abbrev pub wantBoth : List ℕ
+wantBoth = (2 ∷ 1 ∷ 4 ∷ []) ++ (7 ∷ 8 ∷ 9 ∷ 9 ∷ []) ++ (0 ∷ 0 ∷ 0 ∷ 1 ∷ [])
+
+-- A method of two nodes, each for the one atom, and two goals that want it, where it is true at first.
+abbrev pub twiceShop : List ℕ
+twiceShop = (1 ∷ 0 ∷ 1 ∷ 7 ∷ []) ++ (2 ∷ 7 ∷ 8 ∷ 9 ∷ 7 ∷ 8 ∷ 9 ∷ []) ++ repeated 7 (0 ∷ [])
+
+abbrev pub twiceOrder : List ℕ
+twiceOrder = (1 ∷ 2 ∷ 7 ∷ []) ++ (12 ∷ 7 ∷ 8 ∷ 9 ∷ 7 ∷ 8 ∷ 9 ∷ []) ++ repeated 7 (0 ∷ [])
 
 -- A trace that is accepted.
 abbrev pub acceptedCase : List ℕ → List ℕ → List ℕ → ℕ → List ℕ → ℕ → ℕ → List ℕ → Case
@@ -149,9 +211,20 @@ stepCases =
     -- not free. Or a release of the other goal at place 0, then of the first node, which is there now, and action 2 for the second.
     ∷ refusedCase coreShop pairOrder ((3 ∷ []) ++ (256 ∷ 1 ∷ 0 ∷ []) ++ (1 ∷ 1 ∷ 2 ∷ [])) 28 2
     ∷ refusedCase coreShop pairOrder ((5 ∷ []) ++ (256 ∷ 1 ∷ 0 ∷ 0 ∷ 2 ∷ []) ++ (1 ∷ 1 ∷ 0 ∷ 0 ∷ 0 ∷ [])) 33 5
-    -- A method where 64 wait: 32; and where it is not relevant either: 31 before 32.
+    -- The method's last node, which has no 11 row, is not free while its others wait.
+    ∷ coreRefused ((2 ∷ []) ++ (256 ∷ 0 ∷ []) ++ (0 ∷ 3 ∷ [])) 28 1
+    -- A method used twice: the nodes of the second use are freed by each other's release alone, and the goals of the first still wait.
+    ∷ refusedCase twiceShop twiceOrder ((4 ∷ []) ++ (256 ∷ 256 ∷ 0 ∷ 0 ∷ []) ++ (0 ∷ 3 ∷ 3 ∷ 3 ∷ [])) 33 4
+    -- A method whose need does not hold; and which is not relevant either: 30 before 31.
+    ∷ refusedCase needingShop wantOne (1 ∷ 256 ∷ 0 ∷ []) 30 0
+    ∷ refusedCase needingOther wantFirst (1 ∷ 256 ∷ 0 ∷ []) 30 0
+    -- An action relevant by what it makes false; and one that is not, since it makes false what is wanted true.
+    ∷ acceptedCase clearShop wantClear ((2 ∷ []) ++ (1 ∷ 0 ∷ []) ++ (0 ∷ 0 ∷ [])) 2 [] 1 0 (1 ∷ 91 ∷ 92 ∷ 93 ∷ 94 ∷ 95 ∷ 96 ∷ 97 ∷ 98 ∷ 99 ∷ 100 ∷ 101 ∷ [])
+    ∷ refusedCase mixedShop wantBoth (1 ∷ 1 ∷ 0 ∷ []) 31 0
+    -- A method of one node where 63 wait: it is used, and 64 wait; where 64 wait: 32; and where it is not relevant either: 31 before 32.
+    ∷ refusedCase fullShop lessThanFullOrder (1 ∷ 256 ∷ 0 ∷ []) 33 1
     ∷ refusedCase fullShop fullOrder (1 ∷ 256 ∷ 0 ∷ []) 32 0
-    ∷ refusedCase fullShop emptyOrder (1 ∷ 256 ∷ 0 ∷ []) 31 0
+    ∷ refusedCase fullShop wantNothing (1 ∷ 256 ∷ 0 ∷ []) 31 0
     ∷ []
 
 -- A search's sheets, depth and room, and what it answers and leaves.
@@ -172,6 +245,14 @@ tieShop = (2 ∷ 2 ∷ 0 ∷ 4 ∷ []) ++ (1 ∷ 5 ∷ 1 ∷ 5 ∷ []) ++ (1 ∷
 abbrev pub tieOrder : List ℕ
 tieOrder = (2 ∷ 2 ∷ 6 ∷ []) ++ (7 ∷ 8 ∷ 9 ∷ 7 ∷ 8 ∷ 9 ∷ []) ++ (0 ∷ 0 ∷ 0 ∷ 0 ∷ 0 ∷ 1 ∷ [])
 
+-- Two actions of cost 0, both for atom 0.
+abbrev pub equalShop : List ℕ
+equalShop = (1 ∷ 2 ∷ 0 ∷ 4 ∷ []) ++ (1 ∷ 5 ∷ 1 ∷ 5 ∷ []) ++ repeated 4 (0 ∷ [])
+
+-- Two actions of cost 0: action 1 makes atom 0 true, action 2 both atoms.
+abbrev pub widerShop : List ℕ
+widerShop = (2 ∷ 2 ∷ 0 ∷ 5 ∷ []) ++ (1 ∷ 5 ∷ 1 ∷ 5 ∷ 5 ∷ []) ++ (0 ∷ 0 ∷ 0 ∷ 0 ∷ 1 ∷ [])
+
 abbrev pub searchCases : List SearchCase
 searchCases =
     -- D 33 and no room: 41 before 42. No room and no trace: 42 before 43. No trace of one step.
@@ -180,7 +261,7 @@ searchCases =
     ∷ record { shop = coreShop; order = coreOrder; depth = 1; room = lent; number = 43; place = 0; exit = lent }
     -- D 32 in a room of 65 words, with nothing to do.
     ∷ record { shop = coreShop; order = noGoalsOrder; depth = 32; room = repeated 65 (9 ∷ []); number = 0; place = 0; exit = 0 ∷ repeated 64 (9 ∷ []) }
-    -- The lower place first, though its move is the higher; then the release before the other action.
+    -- The lower place first, though its move is the higher; then place 0 again, before place 1.
     ∷ record {
       shop = tieShop;
       order = tieOrder;
@@ -189,6 +270,26 @@ searchCases =
       number = 0;
       place = 4;
       exit = (4 ∷ []) ++ (2 ∷ 0 ∷ 1 ∷ 0 ∷ []) ++ (0 ∷ 0 ∷ 0 ∷ 0 ∷ []) ++ (99 ∷ 100 ∷ 101 ∷ []);
+    }
+    -- Of two moves at one place the lower.
+    ∷ record {
+      shop = equalShop;
+      order = wantOne;
+      depth = 2;
+      room = lent;
+      number = 0;
+      place = 2;
+      exit = (2 ∷ []) ++ (1 ∷ 0 ∷ []) ++ (0 ∷ 0 ∷ []) ++ (95 ∷ 96 ∷ 97 ∷ 98 ∷ 99 ∷ 100 ∷ 101 ∷ []);
+    }
+    -- Fewer steps first: action 2 alone, though the trace that begins with action 1 is earlier and of three steps.
+    ∷ record {
+      shop = widerShop;
+      order = wantBoth;
+      depth = 3;
+      room = lent;
+      number = 0;
+      place = 2;
+      exit = (2 ∷ []) ++ (2 ∷ 0 ∷ []) ++ (0 ∷ 0 ∷ []) ++ (95 ∷ 96 ∷ 97 ∷ 98 ∷ 99 ∷ 100 ∷ 101 ∷ []);
     }
     ∷ []
 
