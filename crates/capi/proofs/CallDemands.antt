@@ -34,7 +34,7 @@ c-calls-promised = record {
         is = is;
         demand-1 = promised .demand-1 .of-replay shop sheet trace room (replayedIn plan answer atoms) is;
         demand-2 = promised .demand-2 shop sheet trace room (replayedIn plan answer atoms) is;
-        demand-3 = λ inputs. (record { room = room; result = replayedIn plan answer atoms; inputs = inputs; called = is }, refl, refl);
+        is-call = λ inputs. (record { room = room; result = replayedIn plan answer atoms; inputs = inputs; called = is }, refl, refl);
       };
   hgn-search = λ shop sheet depth room left answer l.
       let is = searched-back l in
@@ -44,4 +44,5 @@ c-calls-promised = record {
         demand-2 = promised .demand-2-of-search shop sheet depth room (searchedIn left answer) is;
         agrees-with-replay = promised .search-agrees-with-replay shop sheet depth room (searchedIn left answer) is;
       };
+  definitions = promised;
 }

@@ -1,6 +1,6 @@
 -- The demands of document 00, read of the five calls of C: what hgn's `specs/Demands.antt` says of answers and rooms, said of the words and
 -- bytes that these calls leave. Each hypothesis is the contract of the call that its field names. "Lent memory" of demand 1 is the room
--- for the plan and the room for the trace: `answer` and `atoms` are the answer itself, and every call writes them whole.
+-- for the plan and the room for the trace: `answer`, and of the replay `atoms`, are the answer itself, written whole by every call.
 -- A value of `Promised` stands in `proofs/CallDemands.antt`.
 use Prim.Native.Nat.{ℕ}
 use mathlib.Core.Path.{_≡_}
@@ -15,6 +15,7 @@ use Rattle.hgn.specs.Replay.{Replayed, replay}
 use Rattle.hgn.specs.Search.{Searched, search}
 use Rattle.hgn.specs.Demands.{ShopCheckAnswers, OrderCheckAnswers, TraceCheckAnswers, ReplayAnswers, SearchAnswers}
 use Rattle.hgn.specs.Demands.{InputsPass, IsDefinition1, Call, IsFirstOfShortest, SearchAndReplay}
+use Rattle.hgn.specs.Demands as Demands
 use Rattle.capi.specs.Words.{refusalWords, ReplayLeft, SearchLeft}
 
 -- What a caller reads in the words and bytes.
@@ -36,7 +37,7 @@ pub record OfReplay (shop sheet trace room plan answer atoms : List ℕ) : Type 
   pub is : replayedIn plan answer atoms ≡ replay shop sheet trace room
   pub demand-1 : ReplayAnswers shop sheet trace room (replayedIn plan answer atoms)
   pub demand-2 : IsDefinition1 shop sheet trace room (replayedIn plan answer atoms)
-  pub demand-3 : InputsPass shop sheet trace room
+  pub is-call : InputsPass shop sheet trace room
       → (k : Call shop sheet trace) × (k .result ≡ replayedIn plan answer atoms) × (k .room ≡ room)
 
 -- What a caller of the search may rely on.
@@ -46,7 +47,7 @@ pub record OfSearch (shop sheet : List ℕ) (depth : ℕ) (room left answer : Li
   pub demand-2 : IsFirstOfShortest shop sheet depth room (searchedIn left answer)
   pub agrees-with-replay : SearchAndReplay shop sheet depth room (searchedIn left answer)
 
-pub record Promised : Type 0 where
+pub record Promised : Type 1 where
   pub hgn-check-shop : (shop answer : List ℕ) → answer ≡ refusalWords (told (checkShop shop)) → ShopCheckAnswers shop (refusalIn answer)
   pub hgn-check-order : (shop sheet answer : List ℕ) → answer ≡ refusalWords (told (checkOrder shop sheet))
       → OrderCheckAnswers shop sheet (refusalIn answer)
@@ -56,3 +57,5 @@ pub record Promised : Type 0 where
       → OfReplay shop sheet trace room plan answer atoms
   pub hgn-search : (shop sheet : List ℕ) (depth : ℕ) (room left answer : List ℕ) → SearchLeft (search shop sheet depth room) left answer
       → OfSearch shop sheet depth room left answer
+  -- All that hgn's page of demands says; demand 3 of replays is about the calls of `is-call`.
+  pub definitions : Demands.Promised

@@ -1,4 +1,5 @@
 -- Every statement of the pages `specs/Demands.antt` and `specs/Readings.antt` is proved. Assumes nothing.
+use mathlib.Core.Path.{refl}
 use Rattle.hgn.specs.Demands.{Promised}
 use Rattle.hgn.specs.Readings.{Read}
 use Rattle.hgn.proofs.Answered.{demand-1}
@@ -14,6 +15,7 @@ use Rattle.hgn.proofs.Orders.{networks-are-000s}
 use Rattle.hgn.proofs.Places.{places-are-01s}
 use Rattle.hgn.proofs.Checked.{methods-end-in-goals}
 use Rattle.hgn.proofs.Effects.{effects-are-gamma, states-are-sets}
+use Rattle.hgn.proofs.Entailment.{relevance-is-000s}
 use Rattle.hgn.proofs.Costs.{costs-are-sums}
 
 pub promised : Promised
@@ -37,5 +39,7 @@ read = record {
   methods-end-in-goals = methods-end-in-goals;
   effects-are-gamma = effects-are-gamma;
   states-are-sets = states-are-sets;
+  relevance-is-000s = relevance-is-000s;
+  limits-are-01s = record { waiting = λ shop. refl; depth = refl };
   costs-are-sums = costs-are-sums;
 }

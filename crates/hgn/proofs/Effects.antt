@@ -16,7 +16,7 @@ use Rattle.hgn.specs.Readings.{EffectsAreGamma, In, InEffect, Reached, f
 use Rattle.hgn.proofs.Tests.{beq-true, eq-beq, replicate-default, among-true, true-among}
 use Rattle.hgn.proofs.Steps.{Moved, by-release, by-action, by-method, took}
 
-length-assign : (b : Bool) (atoms : List ℕ) (s : State) → length (assign b atoms s) ≡ length s
+pub length-assign : (b : Bool) (atoms : List ℕ) (s : State) → length (assign b atoms s) ≡ length s
 unfolding assign
 length-assign b [] s = refl
 length-assign b (a ∷ atoms) s = length-assign b atoms (set s a b) ∙ length-set s a b

@@ -20,6 +20,7 @@ pub mod Runs
 pub mod Derivations
 pub mod Limits
 pub mod Effects
+pub mod Entailment
 pub mod Names
 pub mod Reached
 pub mod Orders

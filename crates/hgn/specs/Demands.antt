@@ -1,6 +1,7 @@
--- What is proved of the calls: the three demands of document 00, each as a named type with the demand quoted above it. Each speaks of
--- whatever answer and room at exit equal the definition's; the contract of each call says that its answer and room do. What the definitions themselves
--- say, read a second time, stands in `Readings`. Values stand in `proofs/`, gathered in `proofs/Demands.antt`.
+-- What is proved of the calls: the three demands of document 00, each as a named type with the demand quoted above it. Demands 1 and 2, and 3 of
+-- replays, speak of whatever answer and room at exit equal the definition's, and the contract of each call says that its answer and room do;
+-- demand 3 itself speaks of orders and states. What the definitions say, read a second time, stands in `Readings`. Values stand in `proofs/`, gathered in
+-- `proofs/Demands.antt`.
 use Prim.Native.Nat.{ℕ, _+_, _*_, _≤_, _<_}
 use mathlib.Core.Path.{_≡_}
 use mathlib.Core.Logic.{_↔_, _≢_}
@@ -38,7 +39,7 @@ pub record Refuses (room : List ℕ) (c : Replayed) : Type 0 where
   pub cost : c .answer .cost ≡ 0
   pub unchanged : c .room ≡ room
 
--- What a check of sheets answers, which is lent no memory to write into. "0 and 0 when passed."
+-- What a check of sheets answers. No memory is lent to a check, so there is none that a refusal could leave touched. "0 and 0 when passed."
 pub record CheckAnswers (questions : List Question) (a : Refusal) : Type 0 where
   pub first : AnswersFirst questions a (Unit {0})
   pub passed-place : a .number ≡ 0 → a .place ≡ 0
@@ -128,10 +129,10 @@ pub record Finds (shop sheet : List ℕ) (room : List ℕ) (xs : List Step) (c :
   pub room-length : length (c .room) ≡ length room
 
 pub record IsFirstOfShortest (shop sheet : List ℕ) (depth : ℕ) (room : List ℕ) (c : Searched) : Type 0 where
-  -- It finds a trace exactly when sheets, depth and room pass and one of at most D steps is accepted,
+  -- It finds a trace exactly when sheets, depth and room pass and a trace of at most D steps is accepted.
   pub finds-iff : (c .refusal .number ≡ 0)
       ↔ (SearchPasses shop sheet depth room × ((xs : List Step) × Solves shop sheet xs × (length xs ≤ depth)))
-  -- and that is the first of the shortest, of which there is one only.
+  -- What it finds is the first of the shortest traces, of which there is one only.
   pub results : c .refusal .number ≡ 0
       → (xs : List Step) × FirstOfShortest shop sheet xs × (length xs ≤ depth) × Finds shop sheet room xs c
   pub one-only : (xs ys : List Step) → FirstOfShortest shop sheet xs → FirstOfShortest shop sheet ys → xs ≡ ys
@@ -161,8 +162,8 @@ SearchAgreesWithReplay = (shop sheet : List ℕ) (depth : ℕ) (room : List ℕ)
 -- that its front is accepted on the first order, with the second order's goals counted among the 64 throughout, and its back is
 -- accepted on the second from the state that the front leaves. No trace has two such cuts. With such a cut, the plan on the join
 -- is the front's followed by the back's, the cost is the sum of the two, and the last state is the back's."
--- It is stated of every list of steps, whatever its length, and under any rules with the limit 64, so of `rulesOf shop`. That "accepted" is
--- a derivation under Definition 1, under these, is `AcceptedIsDerivation` of `Readings`.
+-- It is stated of every list of steps, whatever its length, and under any rules with the limit 64, so of `rulesOf shop`. That "accepted" under
+-- `rulesOf shop` is a derivation under Definition 1 is `AcceptedIsDerivation` of `Readings`.
 
 -- The steps are accepted on the join of the two orders.
 abbrev pub OnJoin : Rules → Order → Order → List Step → List ℕ → State → Type 0

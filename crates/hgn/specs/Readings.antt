@@ -13,8 +13,8 @@ use Rattle.hgn.specs.Lists.{At, below}
 use Rattle.hgn.specs.Questions.{Refusal, passed}
 use Rattle.hgn.specs.Questions as Questions
 use Rattle.hgn.specs.Tag.{mostCost}
-use Rattle.hgn.specs.Meaning.{Literal, Node, Action, Method, Domain, Order, lastOf, goalOf, networkOf}
-use Rattle.hgn.specs.State.{State, mostAtoms, allHold, formulaHolds, γ}
+use Rattle.hgn.specs.Meaning.{Literal, Formula, Node, Action, Method, Domain, Order, lastOf, goalOf, networkOf}
+use Rattle.hgn.specs.State.{State, mostAtoms, Entails, allHold, EntailsAll, formulaHolds, γ, opposite, LiteralOf, Relevant}
 use Rattle.hgn.specs.Network.{Origin, Name, Waiting, step, free, anyFree, enter, goalsOf, goalAt, released, decomposed}
 use Rattle.hgn.specs.Run.{Step, release, act, use-method, unknown, moveOf, known, actionAt, methodAt, Problem, startOf, problemFrom}
 use Rattle.hgn.specs.Run.{Rules, Decided, strict, moved, Deed, Stepped, refused, taken, stepped, costOf}
@@ -22,9 +22,9 @@ use Rattle.hgn.specs.Join.{Accepted, join}
 use Rattle.hgn.specs.Shop.{domain, mostActions, checkShop}
 use Rattle.hgn.specs.Order.{order, checkOrder}
 use Rattle.hgn.specs.Trace.{sizeWords, stepCount, mostSteps, stepsOf, checkTrace}
-use Rattle.hgn.specs.Replay.{replay}
+use Rattle.hgn.specs.Replay.{rulesOf, replay}
 use Rattle.hgn.specs.Search.{mostDepth, isFound, searched, search}
-use Rattle.hgn.specs.Written.{SheetsAreWritten}
+use Rattle.hgn.specs.Written.{ConjunctRules, SheetsAreWritten}
 use Rattle.hgn.specs.Definition1.{Derivation, Listed, Precedes, Unconstrained}
 
 -- Accepted is derived. Whatever the rules, if their tests decide their propositions, and whatever the first problem, accepted steps are a
@@ -35,8 +35,8 @@ pub record AcceptedIsDerivation : Type 1 where
       → (P : Problem) (xs : List Step) (plan : List ℕ) (last : State) → Accepted r P xs plan last ↔ Derivation r 0 P xs plan last
   pub strict-decided : (limit : ℕ) (d : Domain) → Decided (strict limit d)
 
--- The order of the questions of a step, from 25 to 32, of those where a replay's sheets, its room and its steps meet, and of a search's:
--- where two neighbours are both answered no, and those before them yes, the number told is the first one's.
+-- The order of the questions of a step (25 to 32), of a replay from 23 to 25, and of a search from 18 to 43: where two neighbours are both
+-- answered no, and those before them yes, the number told is the first one's. For the questions of the sheets, `QuestionCases` has a sheet each.
 
 -- The step is refused by the question of this number.
 abbrev pub RefusedBy : ℕ → Stepped → Type 0
@@ -206,6 +206,29 @@ pub record StatesAreSetsOfAtoms : Type 1 where
   pub first-whole : (o : Order) → length (startOf o) ≡ mostAtoms
   pub whole : (r : Rules) (P Q : Problem) (xs : List Step) → Reached r P xs Q → length (Q .state) ≡ length (P .state)
 
+-- 000: an action or a method is "relevant to a goal formula g if eff(a) (or post(m), respectively) entails at least one literal in g and does
+-- not entail the negation of any literal in g". `Relevant` asks which literals stand in the list. For lists as checked sheets have them, whose
+-- atoms are below 256 and stand once (`ConjunctRules`), that comes to the same.
+
+-- The literal holds in every set of the 256 atoms in which all of these hold.
+abbrev pub EntailsLiteral : List Literal → Literal → Type 0
+EntailsLiteral c l = (s : State) → length s ≡ mostAtoms → EntailsAll s c → Entails s l
+
+pub record RelevantBy000 (effects : List Literal) (g : Formula) : Type 0 where
+  pub literal : Literal
+  pub wanted : LiteralOf g literal
+  pub entailed : EntailsLiteral effects literal
+  pub no-negation : (l : Literal) → LiteralOf g l → ¬ EntailsLiteral effects (opposite l)
+
+abbrev pub RelevanceIs000s : Type 0
+RelevanceIs000s = (F : ℕ) (effects : List Literal) (g : Formula) → F ≤ mostAtoms → ConjunctRules F effects
+    → ((c : List Literal) → List·Memᴰ c g → ConjunctRules F c) → Relevant effects g ↔ RelevantBy000 effects g
+
+-- The limits that no sheet's rules have in them, as document 01's numbers: "at most 64 goals waiting", and a search's D.
+pub record LimitsAre01s : Type 0 where
+  pub waiting : (shop : List ℕ) → rulesOf shop .limit ≡ 64
+  pub depth : mostDepth ≡ 32
+
 -- Document 01: the cost is "at most 4,096 × 65,535 = 268,431,360".
 pub record CostsAreSums : Type 1 where
   pub bounded : (shop : List ℕ) → checkShop shop ≡ passed → (plan : List ℕ) → length plan ≤ mostSteps
@@ -230,4 +253,6 @@ pub record Read : Type 1 where
   pub methods-end-in-goals : MethodsEndInGoals
   pub effects-are-gamma : EffectsAreGamma
   pub states-are-sets : StatesAreSetsOfAtoms
+  pub relevance-is-000s : RelevanceIs000s
+  pub limits-are-01s : LimitsAre01s
   pub costs-are-sums : CostsAreSums

@@ -74,9 +74,9 @@ abbrev pub LiteralOf : Formula → Literal → Type 0
 LiteralOf g l = (c : List Literal) × List·Memᴰ c g × List·Memᴰ l c
 
 -- "relevant to a goal formula g if eff(a) (or post(m), respectively) entails at least one literal in g and does not entail the
--- negation of any literal in g". 000 gives a method no post(m) of its own: what it brings about is goal(m), its last node's. A list of
--- literals in which no atom has both signs entails a literal exactly when the literal stands in it, since any state in which the
--- list holds may give every other atom either value; checked sheets have no other lists.
+-- negation of any literal in g". 000 does not say what post(m) is; source document 003 does: the last subgoal, which here is goal(m). A list
+-- of literals in which no atom has both signs entails a literal exactly when the literal stands in it (`RelevanceIs000s` of `Readings`);
+-- checked sheets have no other lists.
 pub record Relevant (effects : List Literal) (g : Formula) : Type 0 where
   pub literal : Literal
   pub wanted : LiteralOf g literal

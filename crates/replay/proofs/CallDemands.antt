@@ -9,7 +9,7 @@ call-promised = record {
   of-call = λ shop sheet trace room r exit e. record {
     demand-1 = promised .demand-1 .of-replay shop sheet trace room (replayedOf r exit) e;
     demand-2 = promised .demand-2 shop sheet trace room (replayedOf r exit) e;
-    demand-3 = λ inputs. (record { room = room; result = replayedOf r exit; inputs = inputs; called = e }, refl, refl);
+    is-call = λ inputs. (record { room = room; result = replayedOf r exit; inputs = inputs; called = e }, refl, refl);
   };
   definitions = promised;
 }

@@ -17,10 +17,10 @@ Replays shop sheet trace room r exit = replayedOf r exit ≡ replay shop sheet t
 pub record OfCall (shop sheet trace room : List ℕ) (r : Answer) (exit : List ℕ) : Type 0 where
   pub demand-1 : ReplayAnswers shop sheet trace room (replayedOf r exit)
   pub demand-2 : IsDefinition1 shop sheet trace room (replayedOf r exit)
-  pub demand-3 : InputsPass shop sheet trace room → (k : Call shop sheet trace) × (k .result ≡ replayedOf r exit) × (k .room ≡ room)
+  pub is-call : InputsPass shop sheet trace room → (k : Call shop sheet trace) × (k .result ≡ replayedOf r exit) × (k .room ≡ room)
 
 pub record Promised : Type 1 where
   pub of-call : (shop sheet trace room : List ℕ) (r : Answer) (exit : List ℕ) → Replays shop sheet trace room r exit
       → OfCall shop sheet trace room r exit
-  -- All that hgn's page of demands says.
+  -- All that hgn's page of demands says; demand 3 of replays is about the calls of `is-call`.
   pub definitions : Demands.Promised

@@ -14,7 +14,8 @@ use Rattle.hgn.specs.Replay.{rulesOf}
 use Rattle.search_theory.specs.Needed.{Needed, Hopeless, OnlyMaker, InEvery, weight, weights, Different}
 use Rattle.search_bound.specs.Tables.{OnlyAchievers}
 
--- The most operators that are gathered, and the most steps that they are said to take: more are left out, since fewer moves are needed too.
+-- The most operators that are gathered, and the most steps that they are said to take. Those beyond are left out: some of the needed moves are
+-- needed too, so the number of steps is still one that no accepted trace goes below.
 abbrev pub mostGathered : ℕ
 mostGathered = mostActions + mostMethods
 

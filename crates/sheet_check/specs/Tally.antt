@@ -18,7 +18,7 @@ nothing = record { actions = 0; methods = 0; opened = false; nodes = 0; alternat
 unfoldable pub withinRules : Tally → Bool
 withinRules t = leb 1 (t .nodes) && leb (t .nodes) mostNodes && eqb (t .alternatives) 1 && eqb (t .afters) 0
 
--- A method outside its node rules is noted, if it is the first.
+-- The method that ends here is noted as the first outside its node rules.
 unfoldable pub noted : Tally → Tally
 noted t = record {
   actions = t .actions;

@@ -1,2 +1,2 @@
--- The rows of a part, and the literals that a test of relevance looks for.
+-- The literals that a test of relevance looks for.
 pub mod Wanted

@@ -44,7 +44,7 @@ abbrev pub OfAction : List ℕ → List ℕ → State → Span → Span → Refu
 OfAction shop order s rows goal r = (k count : ℕ) → actionAt (domain shop) k ≡ Meaning.actionOf (spanRows shop order rows)
     → Answers shop order s goal count (Run.act k) r
 
--- 27 for 28 where no waiting goal is free.
+-- Where no waiting goal is free, the step tells 27 in place of 28.
 abbrev pub toldOf : List Network.Waiting → Questions.Refusal → Questions.Refusal
 toldOf w q = cond (eqb (q .number) 28) (cond (anyFree w) q ((27 asks false) .refusal)) q
 

@@ -1,0 +1,105 @@
+-- Lists of literals in which no atom stands twice entail the literals that stand in them and no others, so `Relevant` is 000's. Assumes nothing.
+use Prim.Native.Nat.{ℕ, suc, _≤_, _<_}
+use native.Mathlib.Omega.{arith}
+use mathlib.Core.Path.{_≡_, refl, sym, ap, _∙_}
+use mathlib.Core.Bool.{Bool, true, false, true≢false, false≢true}
+use mathlib.Core.Logic.{inl, inr, ⊎-elim}
+use mathlib.Core.List.{List, [], _∷_, List·Memᴰ, List·Memᴰ·head, List·Memᴰ·tail, List·Memᴰ·not-nil, Memᴰ·map, Memᴰ·cast}
+use lib.ListN.{length, replicate, length-replicate, getD-replicate}
+use Rattle.hgn.specs.Meaning.{Literal}
+use Rattle.hgn.specs.State.{State, mostAtoms, Entails, EntailsAll, γ, opposite, contains, LiteralOf}
+use Rattle.hgn.specs.Written.{ConjunctRules}
+use Rattle.hgn.specs.Readings.{EntailsLiteral, RelevanceIs000s}
+use Rattle.hgn.proofs.Tests.{not-true-false, false-not-true, contains-iff}
+use Rattle.hgn.proofs.Rules.{Rise, rise, rising-top, atoms}
+use Rattle.hgn.proofs.Effects.{length-assign, effects-are-gamma}
+
+rise-least : (top l : ℕ) (ks : List ℕ) → Rise top l ks → (k : ℕ) → List·Memᴰ k ks → l ≤ k
+rise-least top l [] h k m = absurd (List·Memᴰ·not-nil m)
+rise-least top l (j ∷ ks) h k (List·Memᴰ·head e) = omega (arith, h .0, e)
+rise-least top l (j ∷ ks) h k (List·Memᴰ·tail m) = omega (arith, h .0, rise-least top (suc j) ks (h .2) k m)
+
+-- Of literals whose atoms rise, two with one atom are one.
+same-atom : (top low : ℕ) (c : List Literal) → Rise top low (atoms c) → {k l : Literal} → List·Memᴰ k c → List·Memᴰ l c
+    → k .atom ≡ l .atom → k ≡ l
+same-atom top low (x ∷ c) h (List·Memᴰ·head p) (List·Memᴰ·head q) e = p ∙ sym q
+same-atom top low (x ∷ c) h {k} {l} (List·Memᴰ·head p) (List·Memᴰ·tail m) e =
+    absurd (omega (arith, ap (λ (y : Literal). y .atom) p, rise-least top (suc (x .atom)) (atoms c) (h .2) (l .atom) (Memᴰ·map (λ (y : Literal). y .atom) m)))
+same-atom top low (x ∷ c) h {k} {l} (List·Memᴰ·tail m) (List·Memᴰ·head p) e =
+    absurd (omega (arith, ap (λ (y : Literal). y .atom) p, rise-least top (suc (x .atom)) (atoms c) (h .2) (k .atom) (Memᴰ·map (λ (y : Literal). y .atom) m)))
+same-atom top low (x ∷ c) h (List·Memᴰ·tail m) (List·Memᴰ·tail n) e = same-atom top (suc (x .atom)) c (h .2) m n e
+
+module _ (F : ℕ) (c : List Literal) (few : F ≤ mostAtoms) (rules : ConjunctRules F c) where
+  atom-few : (l : Literal) → List·Memᴰ l c → l .atom < mostAtoms
+  atom-few l m = omega (arith, few, rising-top rules (l .atom) (Memᴰ·map (λ (y : Literal). y .atom) m))
+
+  module _ (s : State) (whole : length s ≡ mostAtoms) where
+    -- Whatever the state before, the literals hold when they have been made true.
+    made : EntailsAll (γ s c) c
+    made l m = go (l .sign) refl
+      where
+        small : l .atom < length s
+        small = rw whole (atom-few l m)
+
+        member : (b : Bool) → l .sign ≡ b → List·Memᴰ (record { sign = b; atom = l .atom }) c
+        member b e = Memᴰ·cast (λ i. record { sign = sym e i; atom = l .atom }) m
+
+        go : (b : Bool) → l .sign ≡ b → Entails (γ s c) l
+        go true e = effects-are-gamma s c (l .atom) small .1 (inr (member true e)) ∙ sym e
+        go false e =
+            not-true-false _ (λ t.
+            ⊎-elim (λ k. k .1 (member false e))
+            (λ n. true≢false (sym (ap (λ (y : Literal). y .sign) (same-atom F 0 c (rise rules) m n refl)) ∙ e))
+            (effects-are-gamma s c (l .atom) small .0 t))
+            ∙ sym e
+
+    made-whole : length (γ s c) ≡ mostAtoms
+    unfolding γ
+    made-whole = length-assign true _ _ ∙ length-assign false _ s ∙ whole
+
+  -- A literal that is entailed stands in the list: else it would be false where its opposite was true before.
+  entailed-member : (b : Bool) (p : ℕ) → p < mostAtoms → EntailsLiteral c (record { sign = b; atom = p }) → List·Memᴰ (record { sign = b; atom = p }) c
+  entailed-member true p h e =
+      let s = replicate mostAtoms false in
+      let whole = length-replicate mostAtoms false in
+      let in-made = e (γ s c) (made-whole s whole) (made s whole) in
+      ⊎-elim (λ k. absurd (false≢true (sym (getD-replicate mostAtoms p false false h) ∙ k .0))) (λ m. m)
+      (effects-are-gamma s c p (rw whole h) .0 in-made)
+  entailed-member false p h e = go (contains c (record { sign = false; atom = p })) refl
+    where
+      s : State
+      s = replicate mostAtoms true
+
+      whole : length s ≡ mostAtoms
+      whole = length-replicate mostAtoms true
+
+      go : (b : Bool) → contains c (record { sign = false; atom = p }) ≡ b → List·Memᴰ (record { sign = false; atom = p }) c
+      go true q = contains-iff c (record { sign = false; atom = p }) .0 q
+      go false q =
+          absurd
+          (true≢false
+          (sym (effects-are-gamma s c p (rw whole h) .1
+          (inl (getD-replicate mostAtoms p true false h, λ m. false-not-true _ q (contains-iff c (record { sign = false; atom = p }) .1 m))))
+          ∙ e (γ s c) (made-whole s whole) (made s whole)))
+
+pub relevance-is-000s : RelevanceIs000s
+relevance-is-000s F effects g few rules goals = (
+  (λ h. record {
+    literal = h .literal;
+    wanted = h .wanted;
+    entailed = λ s whole all. all (h .literal) (h .contained);
+    no-negation = λ l w e. h .no-opposite l w (back (opposite l) (small l w) e);
+  }),
+  (λ h. record {
+    literal = h .literal;
+    wanted = h .wanted;
+    contained = back (h .literal) (small (h .literal) (h .wanted)) (h .entailed);
+    no-opposite = λ l w m. h .no-negation l w (λ s whole all. all (opposite l) m);
+  }),
+)
+  where
+    back : (l : Literal) → l .atom < mostAtoms → EntailsLiteral effects l → List·Memᴰ l effects
+    back l h e = entailed-member F effects few rules (l .sign) (l .atom) h e
+
+    small : (l : Literal) → LiteralOf g l → l .atom < mostAtoms
+    small l w = atom-few F (w .0) few (goals (w .0) (w .1)) l (w .2)
