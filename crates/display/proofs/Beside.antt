@@ -34,12 +34,12 @@ use Rattle.hgn.specs.Run.{Step}
 use Rattle.sheet_index.specs.Tables.{Indexed}
 use Rattle.sheet_rows.specs.declared.refusal.Refusal.{Refusal}
 use Rattle.step.specs.declared.problem.Problem.{Problem}
-use Rattle.step.specs.declared.taking.Step as Code
+use Rattle.step.specs.declared.moves.Step as Code
 use Rattle.step.specs.Taking.{Going}
 use Rattle.step.proofs.problem.Problem as P
 use Rattle.step.proofs.problem.Problem.Laws as P′
-use Rattle.step.proofs.taking.Step as X
-use Rattle.step.proofs.taking.Step.Laws as X′
+use Rattle.step.proofs.moves.Step as X
+use Rattle.step.proofs.moves.Step.Laws as X′
 use Rattle.network.specs.Entries.{orderOrigin}
 use Rattle.display.specs.Forward.{Forward}
 

@@ -11,6 +11,7 @@ use borrow.Author.Tests.{eqb-true, eqb-false}
 use Rattle.hgn.specs.Questions as Questions
 use Rattle.hgn.specs.Questions.{placed, allAt, firstNo}
 use Rattle.hgn.specs.Meaning.{Domain}
+use Rattle.hgn.specs.Network.{mostWaiting}
 use Rattle.hgn.specs.Run as Run
 use Rattle.hgn.specs.Run.{Step, Stepped, Deed, problemOf, refused, taken, stepped, moveOf, deedOf, Outcome, stopped, accepted, prepend, endQuestions, ended, runBy, run}
 use Rattle.hgn.specs.Shop.{domain}
@@ -169,6 +170,6 @@ pub display-goes-on : DisplayGoesOn
 display-goes-on = record {
   begins = λ shop sheet table b f. (ap₂ {C = Run.Problem} (λ s w. record { state = s; waiting = w }) (f .atoms) (f .goals .list), going-first (b .atoms) (f .goals));
   goes-on = λ shop sheet n x b c g. by-test (eqb (c .answer .number) 0)
-      (λ z. rw z (going-taken x g (c .forward) (eqb-true _ _ z)))
-      (λ z. rw z (going-refused x g (c .forward) (eqb-false _ _ z)));
+      (λ z. rw z (going-taken mostWaiting (omega arith) x g (c .forward) (eqb-true _ _ z)))
+      (λ z. rw z (going-refused mostWaiting (omega arith) x g (c .forward) (eqb-false _ _ z)));
 }

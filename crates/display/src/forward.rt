@@ -1,10 +1,11 @@
 // The display's record, moved forward by one step where it is held. Document 01, "How a derivation runs": "a stepping display moves one
 // record of atoms and waiting goals forward where it is held ... A refused step gives its number and leaves the record unchanged."
+use network::goals::Goals;
 use sheet_rows::refusal::Refusal;
+use step::moves::Step;
 use step::problem::Problem;
 use step::problem::Stepped;
 use step::record;
-use step::taking::Step;
 ghost use mathlib.Core.Path.{_≡_};
 ghost use Prim.Native.Nat.{_<_};
 ghost use Rattle.sheet_index.specs.Tables.{Indexed};
@@ -39,7 +40,7 @@ pub fn step_forward<'a>(
     ensures { λ r. ⌜ Forward (now (shop .entry)) (now (order .entry)) (step .number) (record { move = step .mv; place = step .place .0 }) (now (bench .entry)) r (now (bench .exit)) ⌝ }
 {
     let problem = *bench;
-    let stepped = record::step(shop, order, tables, problem, step);
+    let stepped = record::step(shop, order, tables, problem, step, Goals::MOST);
     *bench = record_of(stepped);
     refusal_of(stepped)
 }

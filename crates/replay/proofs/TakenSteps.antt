@@ -4,6 +4,7 @@ use mathlib.Core.Path.{_≡_, refl, sym, subst}
 use mathlib.Core.List.{List}
 use lib.ListN.{length, getD}
 use Rattle.hgn.specs.State.{State}
+use Rattle.hgn.specs.Network.{mostWaiting}
 use Rattle.hgn.specs.Run.{Problem, deedOf, actionAt, planOf}
 use Rattle.hgn.specs.Tag.{mostCost}
 use Rattle.hgn.specs.Trace.{stepCount, stepsOf}
@@ -43,7 +44,7 @@ module _ (shop order trace : List ℕ) (fits : 1 + (stepCount trace + stepCount 
   abbrev Goes : Totals → Type 0
   Goes r = Running (rulesOf shop) (stepsOf trace) P₀ (i + 1) P′ (r .count) (r .cost)
 
-  pub run-goes : (m : Move) {r : Totals} → TakenBy shop order i (record { move = mv; place = p }) m s ws s′ ws′ → TotalWith shop m t r → Goes r
+  pub run-goes : (m : Move) {r : Totals} → TakenBy mostWaiting shop order i (record { move = mv; place = p }) m s ws s′ ws′ → TotalWith shop m t r → Goes r
   unfolding deedOf planOf
   run-goes Release a e = subst Goes (sym e) (run-on shop trace fits P₀ i P (t .count) (t .cost) going h mv p mv-is p-is _ P′ (a .comes) refl)
   run-goes (Act k) {r} a e =

@@ -10,9 +10,9 @@ use sheet_index::operators;
 use sheet_rows::refusal::Refusal;
 use state::atoms::State;
 use step::moves::Move;
+use step::moves::Step;
 use step::questions::Decision;
 use step::taking;
-use step::taking::Step;
 ghost use mathlib.Core.Path.{_≡_};
 ghost use mathlib.Core.List.{List};
 ghost use Prim.Native.Nat.{ℕ, _≤_, _+_, _*_};
@@ -22,7 +22,6 @@ ghost use Rattle.hgn.specs.Tag.{mostCost};
 ghost use Rattle.hgn.specs.Trace.{mostSteps, stepCount};
 ghost use Rattle.sheet_index.specs.Tables.{Indexed};
 ghost use Rattle.step.specs.Moves.{Known};
-ghost use Rattle.network.specs.Goals.{countIn};
 ghost use Rattle.replay.specs.Answers.{answerOf, runAnswer, endAnswer};
 ghost use Rattle.step.specs.Taking.{problemWith};
 ghost use Rattle.replay.specs.Running.{FirstGoals, TotalWith};
@@ -81,7 +80,15 @@ pub fn run<'a>(
             place: Place(word(trace, Trace::SIZES + steps + i)),
         };
         i += 1;
-        let decision = taking::take(shop, order, tables, &mut atoms, &mut waiting, step);
+        let decision = taking::take(
+            shop,
+            order,
+            tables,
+            &mut atoms,
+            &mut waiting,
+            step,
+            Goals::MOST,
+        );
         match decision {
             Decision::Refused(refusal) => {
                 return Answer::refused(refusal.at(number));

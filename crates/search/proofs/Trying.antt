@@ -1,5 +1,5 @@
 -- What is found with a step, by the code's tests. Assumes nothing.
-use Prim.Native.Nat.{ℕ, suc, _+_, _<_, _≤_}
+use Prim.Native.Nat.{ℕ, suc, _+_, _<_}
 use native.Mathlib.Omega.{arith}
 use mathlib.Core.Path.{_≡_, refl, ap, sym, _∙_}
 use mathlib.Core.Bool.{Bool, true, false, or-true}
@@ -13,7 +13,7 @@ use Rattle.hgn.specs.Questions.{Refusal}
 use Rattle.hgn.specs.Meaning.{networkOf, nodeOf}
 use Rattle.hgn.specs.State.{State}
 use Rattle.hgn.specs.Network as Network
-use Rattle.hgn.specs.Network.{free, goalAt}
+use Rattle.hgn.specs.Network.{mostWaiting, free, goalAt}
 use Rattle.hgn.specs.Run.{Step, Move, moveOf, methodAt, Problem, Rules, Deed, Stepped, refused, taken, moved, stepped}
 use Rattle.hgn.specs.Shop.{domain, actionCount, methodCount}
 use Rattle.hgn.specs.Replay.{rulesOf}
@@ -24,7 +24,6 @@ use Rattle.sheet_rows.specs.declared.refusal.Refusal as Code
 use Rattle.sheet_rows.proofs.Laws.{told}
 use Rattle.sheet_index.specs.Index.{spanRows}
 use Rattle.sheet_index.specs.Tables.{Indexed}
-use Rattle.sheet_index.specs.declared.index.Span.{Span}
 use Rattle.network.specs.Entries.{waitingOf}
 use Rattle.network.specs.declared.waiting.Entry.{Entry}
 use Rattle.network.specs.Goals.{countIn, entryIn, listIn}
@@ -192,7 +191,7 @@ suffices-least shop P least left few none-below = go (leb least left) refl
 module _ {shop order table : List ℕ} (ix : Indexed shop order table) (s : State) (ws : List ℕ) (x : Choice) (inside : x .place .0 < countIn ws)
     (known : Known (actionCount shop) (methodCount shop) (x .mv))
     (is-free : free (listIn shop order ws) (goalAt (listIn shop order ws) (x .place .0)) ≡ true) {goal : Entry} (here : goal ≡ entryIn ws (x .place .0))
-    {count : ℕ} (counts : count ≡ countIn ws) {q : Code.Refusal} (said : Answers shop order s (goal .rows) count (knownOf (x .mv)) q) where
+    {count : ℕ} (counts : count ≡ countIn ws) {q : Code.Refusal} (said : Answers shop order s (goal .rows) (record { count = count; limit = mostWaiting }) (knownOf (x .mv)) q) where
   abbrev P : Problem
   P = problemWith shop order s ws
 
@@ -214,7 +213,7 @@ module _ {shop order table : List ℕ} (ix : Indexed shop order table) (s : Stat
       inr λ n. (
         refusalOf q,
         own-refuses (rulesOf shop) n P (moveNumber (x .mv)) (x .place .0) below (x .mv) (number-read ix (x .mv) known) is-free (refusalOf q)
-            (own-told shop n (x .place .0) P (x .mv) (refusalOf q) (said n P (x .place .0) faces) .1 z .0),
+            (own-told (rulesOf shop) n (x .place .0) P (x .mv) (refusalOf q) (said n P (x .place .0) faces) .1 z .0),
       )
 
   pub is-taken : q .number ≡ 0 → idle (domain shop) s (knownOf (x .mv)) ≡ false → Taken shop P x
@@ -223,10 +222,11 @@ module _ {shop order table : List ℕ} (ix : Indexed shop order table) (s : Stat
       inside = below;
       known = known;
       room = rw (list-length shop order ws ∙ sym counts)
-          (own-room shop order s (goal .rows) count 0 (x .place .0) P faces (x .mv) (own-told shop 0 (x .place .0) P (x .mv) (refusalOf q) (said 0 P (x .place .0) faces) .0 z));
+          (own-room shop order s (goal .rows) count mostWaiting 0 (x .place .0) P faces (omega arith) (x .mv)
+          (own-told (rulesOf shop) 0 (x .place .0) P (x .mv) (refusalOf q) (said 0 P (x .place .0) faces) .0 z));
       comes = λ n.
           own-takes (rulesOf shop) n P (moveNumber (x .mv)) (x .place .0) below (x .mv) (number-read ix (x .mv) known) is-free
-          (own-told shop n (x .place .0) P (x .mv) (refusalOf q) (said n P (x .place .0) faces) .0 z);
+          (own-told (rulesOf shop) n (x .place .0) P (x .mv) (refusalOf q) (said n P (x .place .0) faces) .0 z);
     };
     changes = i;
   }

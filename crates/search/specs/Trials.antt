@@ -7,6 +7,7 @@ use mathlib.Core.List.{List}
 use mathlib.Core.Option.{Option, none}
 use Rattle.hgn.specs.Questions.{Refusal}
 use Rattle.hgn.specs.State.{State}
+use Rattle.hgn.specs.Network.{mostWaiting}
 use Rattle.hgn.specs.Run.{Step, Problem, Rules, refused, stepped}
 use Rattle.hgn.specs.Shop.{domain, actionCount, methodCount}
 use Rattle.hgn.specs.Search.{mostDepth}
@@ -52,7 +53,7 @@ Suffices shop P left false = (tooFewLeft left P ≡ true) ⊎ ((P₀ : Problem) 
 
 -- The step may be taken, and is no action that leaves the state as it is.
 pub record Taken (shop : List ℕ) (P : Problem) (x : Choice) : Type 0 where
-  pub taking : Taking shop P (moveNumber (x .mv)) (x .place .0) (x .mv)
+  pub taking : Taking mostWaiting shop P (moveNumber (x .mv)) (x .place .0) (x .mv)
   pub changes : idle (domain shop) (P .state) (knownOf (x .mv)) ≡ false
 
 -- The step is refused, or is an action that leaves the state as it is.

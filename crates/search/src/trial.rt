@@ -10,6 +10,7 @@ use sheet_check::check::Shop;
 use step::moves::Choice;
 use step::moves::Move;
 use step::questions;
+use step::questions::Load;
 ghost use mathlib.Core.Path.{_≡_};
 ghost use mathlib.Core.Bool.{true, cond, not};
 ghost use Prim.Native.Nat.{_<_, _≤_};
@@ -38,9 +39,12 @@ fn may_take<'a>(
     ensures { λ r. ⌜ MayTake (now (shop .entry)) (problemWith (now (shop .entry)) (now (order .entry)) (now (atoms .entry)) (now (goals .entry))) choice r ⌝ }
 {
     let mv = choice.mv;
-    let count = goals::count_of(goals);
+    let load = Load {
+        count: goals::count_of(goals),
+        limit: Goals::MOST,
+    };
     let goal = goals::entry_at(goals, choice.place);
-    let refusal = questions::of_move(shop, order, tables, atoms, mv, goal.rows, count);
+    let refusal = questions::of_move(shop, order, tables, atoms, mv, goal.rows, load);
     if refusal.number != 0 {
         return false;
     }

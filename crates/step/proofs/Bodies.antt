@@ -6,17 +6,17 @@ use mathlib.Core.Bool.{true, false}
 use mathlib.Core.Logic.{_≢_}
 use mathlib.Core.List.{List}
 use mathlib.Core.Option.{some}
+use lib.Dec.{leb}
 use lib.ListN.{length, length-append, length-take, length-drop}
-use borrow.Author.Tests.{lt-ltb, le-ltb, le-leb, lt-leb, leb-true}
+use borrow.Author.Tests.{lt-ltb, le-ltb, leb-true}
 use Rattle.hgn.specs.Questions as Questions
 use Rattle.hgn.specs.Questions.{_asks_, passed, firstNo}
 use Rattle.hgn.specs.Meaning.{Node, nodeOf, goalOf, networkOf}
 use Rattle.hgn.specs.State.{State, allHold, formulaHolds, relevant}
 use Rattle.hgn.specs.Network.{Waiting, Origin, step, mostWaiting, free, anyFree, goalAt, decomposed}
 use Rattle.hgn.specs.Run as Run
-use Rattle.hgn.specs.Run.{Step, Problem, Rules, moveOf, actionAt, methodAt, known, ownQuestions, stepQuestions, deedOf, moved, refused, taken, stepped}
+use Rattle.hgn.specs.Run.{Step, Problem, Rules, strict, moveOf, actionAt, methodAt, known, ownQuestions, stepQuestions, deedOf, moved, refused, taken, stepped}
 use Rattle.hgn.specs.Shop.{domain, actionCount, methodCount, checkShop}
-use Rattle.hgn.specs.Replay.{rulesOf}
 use Rattle.hgn.proofs.Firsts.{refused-number, passed-cons}
 use Rattle.hgn.proofs.Numbers.{step-numbers, not-zero}
 use Rattle.hgn.proofs.Checked.{shop-counts}
@@ -105,11 +105,11 @@ refused-numbered r n P x q e = go (firstNo (stepQuestions r n P x)) refl
         same : {a b : Questions.Refusal} → refused a ≡ refused b → a ≡ b
         same e = cc
 
--- A move's own questions, from the state, the goal's rows and the number waiting.
-module _ (shop order : List ℕ) (s : State) (goal : Span) (count n p : ℕ) (P : Problem) (f : Faces shop order s goal count P p) where
+-- A move's own questions, from the state, the goal's rows, the number waiting and the limit.
+module _ (shop order : List ℕ) (s : State) (goal : Span) (count limit n p : ℕ) (P : Problem) (f : Faces shop order s goal count P p) where
   -- The first no of a move's own questions.
   abbrev own : Run.Move → Questions.Verdict
-  own m = firstNo (ownQuestions (rulesOf shop) n P p m)
+  own m = firstNo (ownQuestions (strict limit (domain shop)) n P p m)
 
   module _ (b : formulaHolds s (nodeOf (spanRows shop order goal) .formula) ≡ true) where
     pub own-holds : own Run.release ≡ passed
@@ -152,19 +152,19 @@ module _ (shop order : List ℕ) (s : State) (goal : Span) (count n p : ℕ) (P 
       use-31 b = rw (f .state, a, f .formula, b)
 
       module _ (b : relevant (goalOf (methodAt (domain shop) m)) (nodeOf (spanRows shop order goal) .formula) ≡ true) where
-        pub use-32 : mostWaiting < count + length (networkOf (methodAt (domain shop) m)) → own (Run.use-method m) ≡ Questions.refused ((32 asks false) .refusal)
+        pub use-32 : leb (count + length (networkOf (methodAt (domain shop) m))) limit ≡ false → own (Run.use-method m) ≡ Questions.refused ((32 asks false) .refusal)
         unfolding ownQuestions firstNo
-        use-32 h = rw (size, f .state, a, f .formula, b, lt-leb _ mostWaiting h)
+        use-32 h = rw (size, f .state, a, f .formula, b, h)
 
-        pub use-passed : count + length (networkOf (methodAt (domain shop) m)) ≤ mostWaiting → own (Run.use-method m) ≡ passed
+        pub use-passed : leb (count + length (networkOf (methodAt (domain shop) m))) limit ≡ true → own (Run.use-method m) ≡ passed
         unfolding ownQuestions firstNo
-        use-passed h = rw (size, f .state, a, f .formula, b, le-leb _ mostWaiting h)
+        use-passed h = rw (size, f .state, a, f .formula, b, h)
 
-  -- Where none of them fails, a method leaves at most 64 waiting.
-  pub own-room : (m : Move) → own (knownOf m) ≡ passed → Room (domain shop) count m
+  -- Where none of them fails within a limit of at most 64, a method leaves at most 64 waiting.
+  pub own-room : limit ≤ mostWaiting → (m : Move) → own (knownOf m) ≡ passed → Room (domain shop) count m
   unfolding ownQuestions
-  own-room Release e = tt
-  own-room (Act k) e = tt
-  own-room (Use m) e =
+  own-room few Release e = tt
+  own-room few (Act k) e = tt
+  own-room few (Use m) e =
       let b = passed-cons _ _ (passed-cons _ _ e .1) in
-      rw (← size m) (leb-true _ mostWaiting (passed-cons _ _ (b .1) .0))
+      omega (arith, size m, leb-true _ limit (passed-cons _ _ (b .1) .0))

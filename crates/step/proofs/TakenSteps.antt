@@ -1,5 +1,5 @@
 -- A step that is taken where state and waiting goals stand: what is seen, and what each move leaves. Assumes nothing.
-use Prim.Native.Nat.{ℕ, _+_, _<_}
+use Prim.Native.Nat.{ℕ, _+_, _<_, _≤_}
 use native.Mathlib.Omega.{arith}
 use native.Mathlib.Numerals.{add-one}
 use mathlib.Core.Path.{_≡_, refl, sym, ap, subst, _∙_}
@@ -7,9 +7,12 @@ use mathlib.Core.List.{List}
 use Rattle.hgn.specs.State.{State, γ}
 use Rattle.hgn.specs.Network as Network
 use Rattle.hgn.specs.Run as Run
-use Rattle.hgn.specs.Run.{moved, deedOf, taken, actionAt}
+use Rattle.hgn.specs.Network.{mostWaiting}
+use Rattle.hgn.specs.Run.{strict, moved, deedOf, taken, stepped, actionAt}
 use Rattle.hgn.specs.Shop.{domain}
+use Rattle.hgn.specs.Replay.{rulesOf}
 use Rattle.hgn.proofs.Steps.{took}
+use Rattle.hgn.proofs.Limits.{wider-step}
 use Rattle.network.specs.Entries.{waitingOf}
 use Rattle.network.specs.declared.goals.Seen.{Seen}
 use Rattle.step.specs.Moves.{knownOf}
@@ -58,7 +61,7 @@ module _ (shop order : List ℕ) (s : State) (ws : List ℕ) (kept : Kept shop o
     }
 
 -- A step that may be taken.
-module _ (shop order : List ℕ) (n : ℕ) (s : State) (ws : List ℕ) {mv : ℕ} (x : Choice) (may : Taking shop (problemWith shop order s ws) mv (x .place .0) (x .mv)) where
+module _ {limit : ℕ} (shop order : List ℕ) (n : ℕ) (s : State) (ws : List ℕ) {mv : ℕ} (x : Choice) (may : Taking limit shop (problemWith shop order s ws) mv (x .place .0) (x .mv)) where
   pub taking-may : MayApply shop order x ws
   taking-may = record {
     inside = omega (arith, may .inside, list-length shop order ws);
@@ -67,17 +70,25 @@ module _ (shop order : List ℕ) (n : ℕ) (s : State) (ws : List ℕ) {mv : ℕ
     is-free = took _ _ _ (may .comes n) .is-free;
   }
 
-  pub taken-by : {s′ : State} {ws′ : List ℕ} → Applied shop order n x s ws s′ ws′ → TakenBy shop order n (record { move = mv; place = x .place .0 }) (x .mv) s ws s′ ws′
+  pub taken-by : {s′ : State} {ws′ : List ℕ} → Applied shop order n x s ws s′ ws′
+      → TakenBy limit shop order n (record { move = mv; place = x .place .0 }) (x .mv) s ws s′ ws′
   taken-by a = record {
     known = may .known;
     comes = may .comes n ∙ ap (taken (deedOf (problemWith shop order s ws) (x .place .0) (knownOf (x .mv)))) (sym (a .leaves));
     kept = a .kept;
   }
 
+-- A step that is taken within a smaller limit is the same step within 64: what steps within different limits have led to, steps within 64 lead to.
+pub within-most : (shop : List ℕ) {limit : ℕ} → limit ≤ mostWaiting → (n : ℕ) (P : Run.Problem) (x : Run.Step) {deed : Run.Deed} {P′ : Run.Problem}
+    → stepped (strict limit (domain shop)) n P x ≡ taken deed P′ → stepped (rulesOf shop) n P x ≡ taken deed P′
+within-most shop few n P x e = wider-step (rulesOf shop) few n P x e
+
 -- What holds of the next step.
-pub going-next : {shop order : List ℕ} {n : ℕ} {x : Run.Step} {m : Move} {s : State} {ws : List ℕ} {s′ : State} {ws′ : List ℕ} → Going shop order n s ws
-    → TakenBy shop order n x m s ws s′ ws′ → Going shop order (n + 1) s′ ws′
-going-next {shop} {order} {n} {x} {s′ = s′} {ws′ = ws′} g a = record {
+pub going-next : {limit : ℕ} {shop order : List ℕ} {n : ℕ} {x : Run.Step} {m : Move} {s : State} {ws : List ℕ} {s′ : State} {ws′ : List ℕ} → limit ≤ mostWaiting
+    → Going shop order n s ws → TakenBy limit shop order n x m s ws s′ ws′ → Going shop order (n + 1) s′ ws′
+going-next {shop = shop} {order} {n} {x} {s′ = s′} {ws′ = ws′} few g a = record {
   kept = a .kept;
-  reached = subst (λ (k : ℕ). ReachedAt shop order k (problemWith shop order s′ ws′)) (sym (add-one n)) (reached-next x (g .reached) (a .comes));
+  reached =
+      subst (λ (k : ℕ). ReachedAt shop order k (problemWith shop order s′ ws′)) (sym (add-one n))
+      (reached-next x (g .reached) (within-most shop few n _ x (a .comes)));
 }

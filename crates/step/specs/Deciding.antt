@@ -13,9 +13,8 @@ use Rattle.hgn.specs.State.{State}
 use Rattle.hgn.specs.Network as Network
 use Rattle.hgn.specs.Network.{mostWaiting, goalAt, free, anyFree}
 use Rattle.hgn.specs.Run as Run
-use Rattle.hgn.specs.Run.{Problem, actionAt, methodAt, ownQuestions, deedOf, moved, refused, taken, stepped}
+use Rattle.hgn.specs.Run.{Problem, strict, actionAt, methodAt, ownQuestions, deedOf, moved, refused, taken, stepped}
 use Rattle.hgn.specs.Shop.{domain, actionCount, methodCount}
-use Rattle.hgn.specs.Replay.{rulesOf}
 use Rattle.sheet_rows.specs.Refusals.{refusalOf}
 use Rattle.sheet_rows.specs.declared.refusal.Refusal.{Refusal}
 use Rattle.sheet_index.specs.declared.index.Span.{Span}
@@ -25,6 +24,7 @@ use Rattle.step.specs.Moves.{Known, knownOf}
 use Rattle.network.specs.declared.goals.Seen.{Seen}
 use Rattle.step.specs.declared.moves.Move.{Move}
 use Rattle.step.specs.declared.moves.Move.the-variants.{Release, Act, Use}
+use Rattle.step.specs.declared.questions.Load.{Load}
 use Rattle.step.specs.declared.questions.Decision.{Decision}
 use Rattle.step.specs.declared.questions.Decision.the-variants.{Refused, Takes}
 
@@ -34,15 +34,16 @@ pub record Faces (shop order : List ℕ) (s : State) (goal : Span) (count : ℕ)
   pub formula : goalAt (P .waiting) p .formula ≡ nodeOf (spanRows shop order goal) .formula
   pub size : length (P .waiting) ≡ count
 
--- The refusal is the first no of the move's own questions, in whatever step and of whatever problem that this goal faces.
-abbrev pub Answers : List ℕ → List ℕ → State → Span → ℕ → Run.Move → Refusal → Type 0
-Answers shop order s goal count m r = (n : ℕ) (P : Problem) (p : ℕ) → Faces shop order s goal count P p
-    → refusalOf r ≡ told (firstNo (ownQuestions (rulesOf shop) n P p m))
+-- The refusal is the first no of the move's own questions under 000's rules with the load's limit, in whatever step and of whatever
+-- problem that this goal faces.
+abbrev pub Answers : List ℕ → List ℕ → State → Span → Load → Run.Move → Refusal → Type 0
+Answers shop order s goal load m r = (n : ℕ) (P : Problem) (p : ℕ) → Faces shop order s goal (load .count) P p
+    → refusalOf r ≡ told (firstNo (ownQuestions (strict (load .limit) (domain shop)) n P p m))
 
--- The first no of the own questions of an action with these rows is told, whatever the action's number.
+-- The first no of the own questions of an action with these rows is told, whatever the action's number and the load.
 abbrev pub OfAction : List ℕ → List ℕ → State → Span → Span → Refusal → Type 0
-OfAction shop order s rows goal r = (k count : ℕ) → actionAt (domain shop) k ≡ Meaning.actionOf (spanRows shop order rows)
-    → Answers shop order s goal count (Run.act k) r
+OfAction shop order s rows goal r = (k : ℕ) (load : Load) → actionAt (domain shop) k ≡ Meaning.actionOf (spanRows shop order rows)
+    → Answers shop order s goal load (Run.act k) r
 
 -- Where no waiting goal is free, the step tells 27 in place of 28.
 abbrev pub toldOf : List Network.Waiting → Questions.Refusal → Questions.Refusal
@@ -55,21 +56,22 @@ pub record SeenIn (shop order : List ℕ) (s : State) (count : ℕ) (seen : Seen
   pub goal : p < count → goalAt (P .waiting) p ≡ waitingOf shop order (seen .goal)
   pub free-is : p < count → seen .free ≡ free (P .waiting) (goalAt (P .waiting) p)
 
--- A method leaves at most 64 waiting.
+-- There is room for a method's nodes: it leaves at most 64 waiting.
 abbrev pub Room : Domain → ℕ → Move → Type 0
 Room d count Release = Unit {0}
 Room d count (Act k) = Unit {0}
 Room d count (Use m) = count + length (networkOf (methodAt d m)) ≤ mostWaiting
 
-pub record Taking (shop : List ℕ) (P : Problem) (move p : ℕ) (m : Move) : Type 0 where
+-- The step is taken under 000's rules with this limit, at whatever number, and there is room for what enters.
+pub record Taking (limit : ℕ) (shop : List ℕ) (P : Problem) (move p : ℕ) (m : Move) : Type 0 where
   pub inside : p < length (P .waiting)
   pub known : Known (actionCount shop) (methodCount shop) m
   pub room : Room (domain shop) (length (P .waiting)) m
-  pub comes : (n : ℕ) → stepped (rulesOf shop) n P (record { move = move; place = p })
+  pub comes : (n : ℕ) → stepped (strict limit (domain shop)) n P (record { move = move; place = p })
       ≡ taken (deedOf P p (knownOf m)) (moved (domain shop) n P p (knownOf m))
 
--- The step comes to what was decided, at whatever number.
-abbrev pub Decides : List ℕ → Problem → ℕ → ℕ → Decision → Type 0
-Decides shop P move p (Refused q) =
-    (n : ℕ) → stepped (rulesOf shop) n P (record { move = move; place = p }) ≡ refused (toldOf (P .waiting) (refusalOf q))
-Decides shop P move p (Takes m) = Taking shop P move p m
+-- The step comes to what was decided, under 000's rules with this limit, at whatever number.
+abbrev pub Decides : ℕ → List ℕ → Problem → ℕ → ℕ → Decision → Type 0
+Decides limit shop P move p (Refused q) =
+    (n : ℕ) → stepped (strict limit (domain shop)) n P (record { move = move; place = p }) ≡ refused (toldOf (P .waiting) (refusalOf q))
+Decides limit shop P move p (Takes m) = Taking limit shop P move p m

@@ -6,9 +6,8 @@ use mathlib.Core.List.{List}
 use Rattle.hgn.specs.State.{State}
 use Rattle.hgn.specs.Network.{free, goalAt}
 use Rattle.hgn.specs.Run as Run
-use Rattle.hgn.specs.Run.{Problem, deedOf, moved, refused, taken, stepped}
+use Rattle.hgn.specs.Run.{Problem, strict, deedOf, moved, refused, taken, stepped}
 use Rattle.hgn.specs.Shop.{domain, actionCount, methodCount}
-use Rattle.hgn.specs.Replay.{rulesOf}
 use Rattle.sheet_rows.specs.Refusals.{refusalOf}
 use Rattle.step.specs.Moves.{Known, knownOf}
 use Rattle.step.specs.Deciding.{Room}
@@ -29,7 +28,8 @@ pub record Kept (shop order ws : List ℕ) : Type 0 where
   pub within : Within ws
   pub counted : Counted (listIn shop order ws) (countsIn ws)
 
--- What a run keeps: such words, and with this state they are a problem that `n` steps have led to.
+-- What a run keeps: such words, and with this state they are a problem that `n` steps have led to, each within a limit of its own: a step
+-- that is taken within a smaller limit is taken within 64.
 pub record Going (shop order : List ℕ) (n : ℕ) (s : State) (ws : List ℕ) : Type 0 where
   pub kept : Kept shop order ws
   pub reached : ReachedAt shop order n (problemWith shop order s ws)
@@ -46,13 +46,15 @@ pub record Applied (shop order : List ℕ) (n : ℕ) (x : Choice) (s : State) (w
   pub leaves : problemWith shop order s′ ws′ ≡ moved (domain shop) n (problemWith shop order s ws) (x .place .0) (knownOf (x .mv))
   pub kept : Kept shop order ws′
 
--- The step is taken.
-pub record TakenBy (shop order : List ℕ) (n : ℕ) (x : Run.Step) (m : Move) (s : State) (ws : List ℕ) (s′ : State) (ws′ : List ℕ) : Type 0 where
+-- The step is taken under 000's rules with this limit.
+pub record TakenBy (limit : ℕ) (shop order : List ℕ) (n : ℕ) (x : Run.Step) (m : Move) (s : State) (ws : List ℕ) (s′ : State) (ws′ : List ℕ) : Type 0 where
   pub known : Known (actionCount shop) (methodCount shop) m
-  pub comes : stepped (rulesOf shop) n (problemWith shop order s ws) x ≡ taken (deedOf (problemWith shop order s ws) (x .place) (knownOf m)) (problemWith shop order s′ ws′)
+  pub comes : stepped (strict limit (domain shop)) n (problemWith shop order s ws) x
+      ≡ taken (deedOf (problemWith shop order s ws) (x .place) (knownOf m)) (problemWith shop order s′ ws′)
   pub kept : Kept shop order ws′
 
--- What a step answers, and what it leaves; refused, all is as it was.
-abbrev pub Took : List ℕ → List ℕ → ℕ → Run.Step → State → List ℕ → Decision → State → List ℕ → Type 0
-Took shop order n x s ws (Refused q) s′ ws′ = (stepped (rulesOf shop) n (problemWith shop order s ws) x ≡ refused (refusalOf q)) × (s′ ≡ s) × (ws′ ≡ ws)
-Took shop order n x s ws (Takes m) s′ ws′ = TakenBy shop order n x m s ws s′ ws′
+-- What a step answers under 000's rules with this limit, and what it leaves; refused, all is as it was.
+abbrev pub Took : ℕ → List ℕ → List ℕ → ℕ → Run.Step → State → List ℕ → Decision → State → List ℕ → Type 0
+Took limit shop order n x s ws (Refused q) s′ ws′ =
+    (stepped (strict limit (domain shop)) n (problemWith shop order s ws) x ≡ refused (refusalOf q)) × (s′ ≡ s) × (ws′ ≡ ws)
+Took limit shop order n x s ws (Takes m) s′ ws′ = TakenBy limit shop order n x m s ws s′ ws′

@@ -17,6 +17,13 @@ pub struct Choice {
     pub place: Place,
 }
 
+// A step of a trace: its number, its move and its place.
+pub struct Step {
+    pub number: u16,
+    pub mv: u16,
+    pub place: Place,
+}
+
 pub enum Read {
     Is(Move),
     Unreadable,

@@ -1,9 +1,8 @@
 // A step's questions, answered before anything changes. Document 01, "Questions".
 use crate::moves::Move;
 use crate::moves::Read;
-use network::goals::Goals;
+use crate::moves::Step;
 use network::goals::Seen;
-use network::waiting::Place;
 use sheet_check::check::Shop;
 use sheet_check::rows::word;
 use sheet_index::index::Span;
@@ -11,7 +10,11 @@ use sheet_index::operators;
 use sheet_rows::refusal::Refusal;
 use sheet_rows::tag;
 use state::parts;
-ghost use Prim.Native.Nat.{_≤_, _<_};
+ghost use mathlib.Core.Path.{_≡_};
+ghost use Prim.Native.Nat.{_+_, _≤_, _<_};
+ghost use lib.Dec.{leb};
+ghost use mir.Syntax.{w16};
+ghost use mir.Val.{Fits};
 ghost use Rattle.hgn.specs.Run as Run;
 ghost use Rattle.hgn.specs.Run.{Problem};
 ghost use Rattle.hgn.specs.Shop.{actionCount, methodCount};
@@ -24,6 +27,22 @@ ghost use Rattle.hgn.specs.Network.{mostWaiting};
 pub enum Decision {
     Refused(Refusal),
     Takes(Move),
+}
+
+// How many goals wait, and how many may wait after a method.
+pub struct Load {
+    pub count: u16,
+    pub limit: u16,
+}
+
+impl Load {
+    // So many more may wait.
+    fn allows(self, more: u16) -> bool
+        requires { ⌜ Fits w16 (self .count + more) ⌝ }
+        ensures { λ r. ⌜ r ≡ leb (self .count + more) (self .limit) ⌝ }
+    {
+        self.count + more <= self.limit
+    }
 }
 
 // The first no of an action's own questions at a goal, both by their rows: 30 where its needs do not hold, 31 where it is not relevant.
@@ -46,7 +65,7 @@ fn of_action<'a>(
 }
 
 // The first no of a method's own questions at a goal by its rows: 30 where its needs do not hold, 31 where it is not relevant, 32 where
-// more than 64 goals would wait.
+// more goals would wait than may.
 fn of_method<'a>(
     shop: &'a [u16],
     order: &'a [u16],
@@ -54,11 +73,11 @@ fn of_method<'a>(
     atoms: &[bool; Shop::MOST_ATOMS as usize],
     method: u16,
     goal: Span,
-    count: u16,
+    load: Load,
 ) -> Refusal
     requires { ⌜ Indexed (now shop) (now order) (now tables) ⌝ }
-    requires { ⌜ (method < methodCount (now shop)) × (count ≤ mostWaiting) ⌝ }
-    ensures { λ r. ⌜ Answers (now (shop .entry)) (now (order .entry)) (now (atoms .entry)) goal count (Run.use-method method) r ⌝ }
+    requires { ⌜ (method < methodCount (now shop)) × (load .count ≤ mostWaiting) ⌝ }
+    ensures { λ r. ⌜ Answers (now (shop .entry)) (now (order .entry)) (now (atoms .entry)) goal load (Run.use-method method) r ⌝ }
 {
     let rows = operators::method_rows(shop, tables, method);
     let head = Span::of_shop(rows.from, rows.first);
@@ -66,7 +85,7 @@ fn of_method<'a>(
         let nodes = operators::nodes_between(tables, rows.first, rows.end);
         let last = Span::of_shop(nodes.last, rows.end);
         if parts::helps(shop, order, last, tag::WANTED_TRUE, tag::WANTED_FALSE, goal) {
-            if count + nodes.count <= Goals::MOST {
+            if load.allows(nodes.count) {
                 return Refusal::none();
             }
             return Refusal::by(32);
@@ -76,7 +95,7 @@ fn of_method<'a>(
     Refusal::by(30)
 }
 
-// A move's own questions, at a goal with these rows, with so many waiting. For a release, does it hold? 29.
+// A move's own questions, at a goal with these rows and under this load. For a release, does it hold? 29.
 pub fn of_move<'a>(
     shop: &'a [u16],
     order: &'a [u16],
@@ -84,11 +103,11 @@ pub fn of_move<'a>(
     atoms: &[bool; Shop::MOST_ATOMS as usize],
     known: Move,
     goal: Span,
-    count: u16,
+    load: Load,
 ) -> Refusal
     requires { ⌜ Indexed (now shop) (now order) (now tables) ⌝ }
-    requires { ⌜ Known (actionCount (now shop)) (methodCount (now shop)) known × (count ≤ mostWaiting) ⌝ }
-    ensures { λ r. ⌜ Answers (now (shop .entry)) (now (order .entry)) (now (atoms .entry)) goal count (knownOf known) r ⌝ }
+    requires { ⌜ Known (actionCount (now shop)) (methodCount (now shop)) known × (load .count ≤ mostWaiting) ⌝ }
+    ensures { λ r. ⌜ Answers (now (shop .entry)) (now (order .entry)) (now (atoms .entry)) goal load (knownOf known) r ⌝ }
 {
     match known {
         Move::Release => {
@@ -101,7 +120,7 @@ pub fn of_move<'a>(
             let rows = operators::action_rows(tables, action);
             of_action(shop, order, atoms, rows, goal)
         }
-        Move::Use(method) => of_method(shop, order, tables, atoms, method, goal, count),
+        Move::Use(method) => of_method(shop, order, tables, atoms, method, goal, load),
     }
 }
 
@@ -113,23 +132,23 @@ pub fn decide<'a>(
     tables: &[u16],
     atoms: &[bool; Shop::MOST_ATOMS as usize],
     seen: Seen,
-    count: u16,
-    mv: u16,
-    place: Place,
+    load: Load,
+    step: Step,
 ) -> Decision
-    requires { ⌜ Indexed (now shop) (now order) (now tables) × (count ≤ mostWaiting) ⌝ }
-    ensures { λ r. ⌜ ((P : Problem) → SeenIn (now (shop .entry)) (now (order .entry)) (now (atoms .entry)) count seen P (place .0) → Decides (now (shop .entry)) P mv (place .0) r) ⌝ }
+    requires { ⌜ Indexed (now shop) (now order) (now tables) × (load .count ≤ mostWaiting) × (load .limit ≤ mostWaiting) ⌝ }
+    ensures { λ r. ⌜ ((P : Problem) → SeenIn (now (shop .entry)) (now (order .entry)) (now (atoms .entry)) (load .count) seen P (step .place .0)
+        → Decides (load .limit) (now (shop .entry)) P (step .mv) (step .place .0) r) ⌝ }
 {
-    if place.0 < count {
+    if step.place.0 < load.count {
         let actions = word(shop, 1);
         let methods = word(shop, 2);
-        let reading = Move::read(mv, actions, methods);
+        let reading = Move::read(step.mv, actions, methods);
         let Read::Is(known) = reading else {
             return Decision::Refused(Refusal::by(26));
         };
         if seen.free {
             let goal = seen.goal;
-            let refusal = of_move(shop, order, tables, atoms, known, goal.rows, count);
+            let refusal = of_move(shop, order, tables, atoms, known, goal.rows, load);
             if refusal.number == 0 {
                 return Decision::Takes(known);
             }

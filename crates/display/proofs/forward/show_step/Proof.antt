@@ -40,8 +40,8 @@ use denote.Exit.{yes}
 use Rattle.step.specs.declared.problem.Problem.{Problem}
 use Rattle.step.proofs.problem.Problem as P
 use Rattle.step.proofs.problem.Problem.Laws as P′
-use Rattle.step.proofs.taking.Step as X
-use Rattle.step.proofs.taking.Step.Laws as X′
+use Rattle.step.proofs.moves.Step as X
+use Rattle.step.proofs.moves.Step.Laws as X′
 use Rattle.sheet_rows.specs.declared.refusal.Refusal.{Refusal}
 use Rattle.sheet_rows.proofs.refusal.Refusal as R
 use Rattle.sheet_rows.proofs.refusal.Refusal.Laws as R′

@@ -1,22 +1,20 @@
 -- The steps passed have led to the state, the goals and the totals at hand (`Running`, `Going`). Assumes nothing.
-use Prim.Native.Nat.{ℕ, _+_, _-_, _<_, _≤_}
+use Prim.Native.Nat.{ℕ, _+_, _-_, _<_}
 use native.Mathlib.Omega.{arith}
-use mathlib.Core.Path.{_≡_, refl, sym, ap, subst, _∙_}
+use mathlib.Core.Path.{_≡_, ap, subst, _∙_}
 use mathlib.Core.List.{List, []}
 use lib.ListN.{length, getD}
 use borrow.Author.Needs.{needs}
 use Rattle.hgn.specs.Questions as Questions
-use Rattle.hgn.specs.Questions.{placed}
 use Rattle.hgn.specs.State.{State}
-use Rattle.hgn.specs.Run as Run
+use Rattle.hgn.specs.Network.{mostWaiting}
 use Rattle.hgn.specs.Run.{Problem}
 use Rattle.hgn.specs.Trace.{stepsOf, stepCount}
 use Rattle.hgn.specs.Replay.{rulesOf, refusal}
 use Rattle.step.specs.declared.moves.Move.{Move}
 use Rattle.step.specs.declared.questions.Decision.{Decision}
-use Rattle.step.specs.declared.questions.Decision.the-variants.{Refused, Takes}
+use Rattle.step.specs.declared.questions.Decision.the-variants.{Takes}
 use Rattle.network.proofs.WaitingGoals.{list-length}
-use Rattle.replay.specs.Answers.{runAnswer, endAnswer}
 use Rattle.step.specs.Taking.{problemWith, Going, TakenBy, Took}
 use Rattle.replay.proofs.Running.{Running, running-start}
 use Rattle.replay.proofs.Totals.{run-stops, run-ended}
@@ -83,12 +81,12 @@ module _ (v : tie.After-take Inv-loop μ-loop) where
   abbrev ws′ : List ℕ
   ws′ = v .take .last .1 .1 .1 .1 .0
 
-  comes : Took shop order i (record { move = move; place = place }) s ws (v .take .result) s′ ws′
+  comes : Took mostWaiting shop order i (record { move = move; place = place }) s ws (v .take .result) s′ ws′
   comes = v .take .ensures
 
   module _ (m : Move) (e : v .take .result ≡ Takes m) where
-    takes : TakenBy shop order i (record { move = move; place = place }) m s ws s′ ws′
-    takes = subst (λ (d : Decision). Took shop order i (record { move = move; place = place }) s ws d s′ ws′) e comes
+    takes : TakenBy mostWaiting shop order i (record { move = move; place = place }) m s ws s′ ws′
+    takes = subst (λ (d : Decision). Took mostWaiting shop order i (record { move = move; place = place }) s ws d s′ ws′) e comes
 
 pub run-spec : {M : Type 1} → statement M
 run-spec =
@@ -122,7 +120,7 @@ run-spec =
     (λ c κs.
     let l = c .before .before .before .before .before in
     let p = l .before .before .before .before .before .before .before .before .before .pre in
-    (p .0 .0, l .loop .inv .1, omega (arith, l .loop .inv .2, c .before .before .before .before .loop-test .taken, p .1 .1)))
+    ((p .0 .0, l .loop .inv .1, omega (arith, l .loop .inv .2, c .before .before .before .before .loop-test .taken, p .1 .1)), omega arith))
     -- enum-known-decision
     (λ c. search needs)
     -- at-requires
@@ -132,7 +130,7 @@ run-spec =
     -- returns
     (λ c.
     let v = c .before .before .before .before .before in
-    let q = subst (λ (d : Decision). Took (shop v) (order v) (i v) (record { move = move v; place = place v }) (s v) (ws v) d (s′ v) (ws′ v))
+    let q = subst (λ (d : Decision). Took mostWaiting (shop v) (order v) (i v) (record { move = move v; place = place v }) (s v) (ws v) d (s′ v) (ws′ v))
     (c .before .before .before .decision .given .1) (comes v) in
     c .refused .ensures
     ∙ ap (λ (r : Questions.Refusal). refusal [] r .answer) (c .before .at .ensures)
@@ -155,7 +153,7 @@ run-spec =
     let l = here v .loop in (
       run-goes (shop v) (order v) (trace v) (start v .pre .1 .0) (P₀ v) (i v) (s v) (ws v) (l .totals) (l .inv .0) (more v) (move v) (place v)
           (move-is v) (place-is v) (s′ v) (ws′ v) _ t (c .with .ensures),
-      going-next (l .inv .1) t,
+      going-next (omega arith) (l .inv .1) t,
       l .inv .2,
     ))
     -- count-of-requires

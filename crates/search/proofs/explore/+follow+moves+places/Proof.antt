@@ -4,7 +4,7 @@
 use Prim.Native.Nat.{ℕ, _+_, _-_, _<_, _≤_}
 use native.Mathlib.Omega.{arith}
 use mathlib.Core.Path.{_≡_, refl, sym, ap, ap₂, subst, _∙_}
-use mathlib.Core.Bool.{Bool, true, false}
+use mathlib.Core.Bool.{Bool, true}
 use mathlib.Core.Logic.{inl}
 use mathlib.Core.List.{List}
 use mathlib.Core.Option.{Option, none, some}
@@ -31,7 +31,6 @@ use Rattle.network.proofs.goals.count_of.Reads as count-of
 use Rattle.network.proofs.goals.is_free.Reads as is-free
 use Rattle.step.specs.Moves.{Known, knownOf}
 use Rattle.step.specs.Taking.{problemWith, Going, Applied}
-use Rattle.step.specs.declared.moves.Move.{Move}
 use Rattle.step.specs.declared.moves.Choice.{Choice}
 use Rattle.step.proofs.TakenSteps.{taking-may, taken-by, going-next}
 use Rattle.step.proofs.taking.apply.Reads as apply
@@ -248,7 +247,7 @@ module _ {t : ℕ} where
         let s = follow-begun in
         let o = some-open s .taken .taking in
         record {
-          going = going-next (follow-going s) (taken-by _ _ _ _ _ (s .args .choice) o applied);
+          going = going-next (omega arith) (follow-going s) (taken-by _ _ _ _ _ (s .args .choice) o applied);
           before = follow-going s .kept;
           last-inside = λ h. omega (arith, o .inside, follow-size s);
           last-known = o .known;

@@ -16,13 +16,13 @@ of-action-spec =
     (λ c κs. search needs)
     (λ c κs. search needs)
     (λ c κs. search needs)
-    (λ c k count e n P p f. c .none .ensures ∙ sym (ap told (act-passed _ _ _ _ _ n p P f k
+    (λ c k load e n P p f. c .none .ensures ∙ sym (ap told (act-passed _ _ _ _ _ _ n p P f k
     (rw e (Laws.told (c .before .before .before .before .needs-hold .ensures) (c .before .before .before .if1 .taken)))
     (rw e (Laws.told (c .before .before .helps .ensures) (c .before .if2 .taken))))))
     (λ c κs. search needs)
-    (λ c k count e n P p f. c .by .ensures ∙ sym (ap told (act-31 _ _ _ _ _ n p P f k
+    (λ c k load e n P p f. c .by .ensures ∙ sym (ap told (act-31 _ _ _ _ _ _ n p P f k
     (rw e (Laws.told (c .before .before .before .before .needs-hold .ensures) (c .before .before .before .if1 .taken)))
     (rw e (Laws.told (c .before .before .helps .ensures) (c .before .if2 .left))))))
     (λ c κs. search needs)
-    (λ c k count e n P p f. c .by2 .ensures ∙ sym (ap told (act-30 _ _ _ _ _ n p P f k
+    (λ c k load e n P p f. c .by2 .ensures ∙ sym (ap told (act-30 _ _ _ _ _ _ n p P f k
     (rw e (Laws.told (c .before .before .needs-hold .ensures) (c .before .if1 .left)))))))

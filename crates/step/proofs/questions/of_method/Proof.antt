@@ -6,6 +6,7 @@ use Rattle.hgn.specs.Tag as Tag
 use Rattle.hgn.specs.Meaning.{literals, nodeOf}
 use Rattle.hgn.specs.State.{allHold, relevant}
 use Rattle.sheet_rows.specs.declared.position.Sheet.the-variants as Of
+use Rattle.sheet_rows.proofs.Laws as Laws
 use Rattle.sheet_index.specs.Index.{spanOf, spanRows}
 use Rattle.sheet_index.specs.Tables.{MethodAt}
 use Rattle.sheet_index.specs.declared.index.Span.{Span}
@@ -58,25 +59,25 @@ of-method-spec =
     (λ c κs. search needs)
     -- helps-requires
     (λ c κs. search needs)
-    -- add-if3
-    (λ c.
-    let n = needed (c .before .before) in
+    -- allows-requires
+    (λ c κs.
+    let n = needed (c .before) in
     let a = at n in
-    omega (arith, c .before .before .before .before .nodes-between .ensures (a .bs) (a .walk) .number, a .few, start n .pre .1))
+    omega (arith, c .before .before .before .nodes-between .ensures (a .bs) (a .walk) .number, a .few, start n .pre .1))
     -- none-requires
     (λ c κs. search needs)
     -- returns
     (λ c.
     let h = c .before .before .before .before in
     method-may (at (needed h)) _ _ _ _ (asked (needed h)) (h .before .before .before .if1 .taken) refl _ (h .before .before .nodes-between .ensures) (told h)
-    (c .before .before .before .if2 .taken) refl (c .before .if3 .taken) (c .none .ensures))
+    (c .before .before .before .if2 .taken) refl (Laws.told (c .before .before .allows .ensures) (c .before .if3 .taken)) (c .none .ensures))
     -- by-requires
     (λ c κs. search needs)
     -- returns-2
     (λ c.
     let h = c .before .before .before .before in
     method-crowded (at (needed h)) _ _ _ _ (asked (needed h)) (h .before .before .before .if1 .taken) refl _ (h .before .before .nodes-between .ensures) (told h)
-    (c .before .before .before .if2 .taken) refl (c .before .if3 .left) (c .by .ensures))
+    (c .before .before .before .if2 .taken) refl (Laws.told (c .before .before .allows .ensures) (c .before .if3 .left)) (c .by .ensures))
     -- by-requires-2
     (λ c κs. search needs)
     -- returns-3

@@ -22,7 +22,7 @@ of-move-spec =
     -- returns
     (λ c.
     of-release _ _ _ _ _ (c .before .before .before .enum-told .given .1)
-    (λ n P p f. c .none .ensures ∙ sym (ap told (own-holds _ _ _ _ _ n p P f (Laws.told (c .before .before .goal-holds .ensures) (c .before .if1 .taken))))))
+    (λ n P p f. c .none .ensures ∙ sym (ap told (own-holds _ _ _ _ _ _ n p P f (Laws.told (c .before .before .goal-holds .ensures) (c .before .if1 .taken))))))
     -- by-requires
     (λ c κs. search needs)
     -- enum-known-known
@@ -43,7 +43,7 @@ of-move-spec =
     -- returns-2
     (λ c.
     of-release _ _ _ _ _ (c .before .before .before .enum-told .given .1)
-    (λ n P p f. c .by .ensures ∙ sym (ap told (own-29 _ _ _ _ _ n p P f (Laws.told (c .before .before .goal-holds .ensures) (c .before .if1 .left))))))
+    (λ n P p f. c .by .ensures ∙ sym (ap told (own-29 _ _ _ _ _ _ n p P f (Laws.told (c .before .before .goal-holds .ensures) (c .before .if1 .left))))))
     -- returns-3
     (λ c.
     let s = c .before .before .before .before .before .before .before .before in

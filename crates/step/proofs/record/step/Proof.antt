@@ -12,7 +12,7 @@ step-spec =
     -- take-requires
     (λ c κs.
     let p = c .before .before .before .before .before .before .before .pre in
-    (p .0, p .1 .0, p .1 .1))
+    ((p .0 .0, p .1 .0, p .1 .1), p .0 .1))
     -- enum-known-decision
     (λ c. search needs)
     -- refused-requires
@@ -25,8 +25,8 @@ step-spec =
     (λ c.
     let v = c .before .before .before .before in
     let s = v .before .before .before .before .before .before .before .before in
-    step-refused _ _ _ _ _ _ _ _ (v .take .ensures) (s .pre .1 .0 .kept) (c .before .before .decision .given .1) (c .refused .ensures))
+    step-refused _ _ _ _ _ _ _ _ _ (v .take .ensures) (s .pre .1 .0 .kept) (c .before .before .decision .given .1) (c .refused .ensures))
     -- returns-2
     (λ c.
     let v = c .before .before .before .before in
-    step-taken _ _ _ _ _ _ _ _ (v .take .ensures) (c .before .before .decision2 .given .1) (c .none .ensures) refl))
+    step-taken _ _ _ _ _ _ _ _ _ (v .take .ensures) (c .before .before .decision2 .given .1) (c .none .ensures) refl))

@@ -31,24 +31,24 @@ module _ (v : tie.After-decide) where
   ws = start .args .waiting .now
 
   kept : Kept shop order ws
-  kept = start .pre .1 .kept
+  kept = start .pre .0 .1 .kept
 
   seen : SeenIn shop order s (v .before .before .count-of .result) (v .before .before .before .before .look .result) (problemWith shop order s ws) (start .args .step .place .0)
   seen = seen-at shop order s ws kept _ _ (v .before .before .count-of .ensures) (v .before .before .before .before .look .ensures)
 
-  decides : Decides shop (problemWith shop order s ws) (start .args .step .mv) (start .args .step .place .0) (v .decide .result)
+  decides : Decides (start .args .limit) shop (problemWith shop order s ws) (start .args .step .mv) (start .args .step .place .0) (v .decide .result)
   decides = v .decide .ensures _ seen
 
   module _ (m : Move) (e : v .decide .result ≡ Takes m) where
-    takes : Taking shop (problemWith shop order s ws) (start .args .step .mv) (start .args .step .place .0) m
-    takes = subst (Decides shop (problemWith shop order s ws) (start .args .step .mv) (start .args .step .place .0)) e decides
+    takes : Taking (start .args .limit) shop (problemWith shop order s ws) (start .args .step .mv) (start .args .step .place .0) m
+    takes = subst (Decides (start .args .limit) shop (problemWith shop order s ws) (start .args .step .mv) (start .args .step .place .0)) e decides
 
 pub take-spec : {M : Type 1} → statement M
 take-spec =
     tie.close
     (tie.spec
     -- look-requires
-    (λ c κs. c .before .before .before .before .before .pre .1 .kept .within)
+    (λ c κs. c .before .before .before .before .before .pre .0 .1 .kept .within)
     -- count-of-requires
     (λ c κs. search needs)
     -- decide-requires
@@ -63,11 +63,11 @@ take-spec =
     (λ c κs.
     let v = c .before .before .before .before .before in
     let e = c .before .before .before .decision2 .given .1 in
-    let p = start v .pre in ((p .0, p .1, p .2), taking-may _ _ (start v .args .step .number) _ _ _ (takes v _ e)))
+    let p = start v .pre .0 in ((p .0, p .1, p .2), taking-may _ _ (start v .args .step .number) _ _ _ (takes v _ e)))
     -- returns
     (λ c.
     let v = c .before .before .before .before .before in
-    let q = subst (Decides (shop v) (problemWith (shop v) (order v) (s v) (ws v)) (start v .args .step .mv) (start v .args .step .place .0))
+    let q = subst (Decides (start v .args .limit) (shop v) (problemWith (shop v) (order v) (s v) (ws v)) (start v .args .step .mv) (start v .args .step .place .0))
     (c .before .before .before .decision .given .1) (decides v) in
     (q (start v .args .step .number) ∙ ap refused (sym (c .told .ensures (shop v) (order v) (kept v))), refl, refl))
     -- returns-2
