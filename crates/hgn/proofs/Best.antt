@@ -2,16 +2,17 @@
 use Prim.Native.Nat.{ℕ, suc, _≤_, _<_}
 use native.Mathlib.Omega.{arith}
 use native.Mathlib.Nat.{le-of-suc-le-suc}
-use mathlib.Core.Path.{_≡_, refl, sym, ap, _∙_, subst}
+use mathlib.Core.Path.{_≡_, refl, sym, ap, _∙_, subst, subst₂}
 use mathlib.Core.Bool.{Bool, true, false}
 use mathlib.Core.Logic.{_⊎_, inl, inr, ⊎-elim}
-use mathlib.Core.List.{List, [], _∷_}
+use mathlib.Core.List.{List, [], _∷_, _++_}
 use lib.Dec.{ltb}
 use lib.ListN.{length}
 use borrow.Author.Tests.{ltb-true, ltb-false}
 use Rattle.hgn.specs.State.{State}
 use Rattle.hgn.specs.Run.{Step, Problem, Rules, Deed, taken, stepped, run, accepted}
 use Rattle.hgn.specs.Search.{Earlier, lower-place, lower-move, same-step}
+use Rattle.hgn.specs.Readings.{FirstDiffers, EarlierIs01s}
 use Rattle.hgn.proofs.Steps.{taken-problem}
 use Rattle.hgn.proofs.Runs.{resumes, resumed-accepts}
 
@@ -93,3 +94,29 @@ either-earlier (x ∷ xs) (y ∷ ys) l = places (either-earlier xs ys (omega ari
 -- Lists of one length, neither earlier, are equal.
 pub none-earlier : (xs ys : List Step) → length xs ≡ length ys → ¬ Earlier xs ys → ¬ Earlier ys xs → xs ≡ ys
 none-earlier xs ys l h k = ⊎-elim (λ e. e) (λ e. absurd (⊎-elim h k e)) (either-earlier xs ys l)
+
+-- The first differing step, and back.
+pub earlier-is-01s : EarlierIs01s
+earlier-is-01s xs ys = (to, λ d. subst₂ Earlier (sym (d .first-is)) (sym (d .second-is)) (from (d .zs) (d .x) (d .y) (d .us) (d .vs) (d .lower)))
+  where
+    to : {xs ys : List Step} → Earlier xs ys → FirstDiffers xs ys
+    to (lower-place l) = record { zs = []; x = _; y = _; us = _; vs = _; first-is = refl; second-is = refl; lower = inl l }
+    to (lower-move e l) = record { zs = []; x = _; y = _; us = _; vs = _; first-is = refl; second-is = refl; lower = inr (e, l) }
+    to (same-step {x = s} h) =
+        let d = to h in
+        record {
+          zs = s ∷ d .zs;
+          x = d .x;
+          y = d .y;
+          us = d .us;
+          vs = d .vs;
+          first-is = ap {B = List Step} (_∷_ s) (d .first-is);
+          second-is = ap {B = List Step} (_∷_ s) (d .second-is);
+          lower = d .lower;
+        }
+
+    from : (zs : List Step) (x y : Step) (us vs : List Step) → (x .place < y .place) ⊎ ((x .place ≡ y .place) × (x .move < y .move))
+        → Earlier (zs ++ (x ∷ us)) (zs ++ (y ∷ vs))
+    from [] x y us vs (inl l) = lower-place l
+    from [] x y us vs (inr l) = lower-move (l .0) (l .1)
+    from (z ∷ zs) x y us vs l = same-step (from zs x y us vs l)

@@ -36,5 +36,5 @@ unfolding any all keep upTo parts among below shopFollow orderFollow contextAfte
     Shop.shopEndQuestions Shop.shopQuestions Order.orderRows Order.order Order.sizesInRange Order.orderEndQuestions Order.orderQuestions stepsOf
     traceWords traceQuestions checkTrace refusal acceptance reported inputQuestions checkReplay replay zipWith flatten headD from firstSome
     Search.movesOf Search.stepsAt Search.candidates Search.noSteps Search.firstOf Search.firstShortest Search.isFound Search.stepsFound
-    Search.searched Search.noTrace Search.written Search.searchQuestions Search.search repeated
-question-cases = record { sheets = refl; steps = refl; searches = refl }
+    Search.searched Search.noTrace Search.written Search.searchQuestions Search.search Shop.checkShop Order.checkOrder repeated
+question-cases = record { sheets = refl; follows-in-shop = refl; follows-in-order = refl; steps = refl; searches = refl }

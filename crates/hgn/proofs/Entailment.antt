@@ -1,18 +1,24 @@
 -- Lists of literals in which no atom stands twice entail the literals that stand in them and no others, so `Relevant` is 000's. Assumes nothing.
 use Prim.Native.Nat.{ℕ, suc, _≤_, _<_}
 use native.Mathlib.Omega.{arith}
-use mathlib.Core.Path.{_≡_, refl, sym, ap, _∙_}
+use mathlib.Core.Path.{_≡_, refl, sym, ap, _∙_, subst}
 use mathlib.Core.Bool.{Bool, true, false, true≢false, false≢true}
 use mathlib.Core.Logic.{inl, inr, ⊎-elim}
-use mathlib.Core.List.{List, [], _∷_, List·Memᴰ, List·Memᴰ·head, List·Memᴰ·tail, List·Memᴰ·not-nil, Memᴰ·map, Memᴰ·cast}
+use mathlib.Core.List.{List, [], _∷_, _++_, List·Memᴰ, List·Memᴰ·head, List·Memᴰ·tail, List·Memᴰ·not-nil, Memᴰ·map, Memᴰ·cast}
 use lib.ListN.{length, replicate, length-replicate, getD-replicate}
-use Rattle.hgn.specs.Meaning.{Literal}
+use Rattle.hgn.specs.Lists.{At, here, there}
+use Rattle.hgn.specs.Meaning.{Literal, Formula, Node, Method, lastOf, goalOf}
 use Rattle.hgn.specs.State.{State, mostAtoms, Entails, EntailsAll, γ, opposite, contains, LiteralOf}
+use Rattle.hgn.specs.Questions.{passed}
+use Rattle.hgn.specs.Shop as Shop
+use Rattle.hgn.specs.Shop.{domain, checkShop}
 use Rattle.hgn.specs.Written.{ConjunctRules}
-use Rattle.hgn.specs.Readings.{EntailsLiteral, RelevanceIs000s}
+use Rattle.hgn.specs.Readings.{EntailsLiteral, RelevanceIs000s, RulesAre000s}
 use Rattle.hgn.proofs.Tests.{not-true-false, false-not-true, contains-iff}
 use Rattle.hgn.proofs.Rules.{Rise, rise, rising-top, atoms}
 use Rattle.hgn.proofs.Effects.{length-assign, effects-are-gamma}
+use Rattle.hgn.proofs.WrittenSheets.{ends-in-last, shop-rules}
+use Rattle.hgn.proofs.Checked.{one-alternative}
 
 rise-least : (top l : ℕ) (ks : List ℕ) → Rise top l ks → (k : ℕ) → List·Memᴰ k ks → l ≤ k
 rise-least top l [] h k m = absurd (List·Memᴰ·not-nil m)
@@ -103,3 +109,30 @@ relevance-is-000s F effects g few rules goals = (
 
     small : (l : Literal) → LiteralOf g l → l .atom < mostAtoms
     small l w = atom-few F (w .0) few (goals (w .0) (w .1)) l (w .2)
+
+-- The rules of a shop sheet that passes.
+
+at-last : (init : List Node) {n : Node} → At (init ++ (n ∷ [])) (length init) n
+at-last [] = here
+at-last (m ∷ init) = there (at-last init)
+
+-- The atoms of a method's goal are those of its last node.
+goal-rules : (shop : List ℕ) → checkShop shop ≡ passed → (m : Method) → List·Memᴰ m (domain shop .methods)
+    → ConjunctRules (Shop.atomCount shop) (goalOf m)
+unfolding goalOf
+goal-rules shop e m k =
+    let rules = shop-rules shop e .methods m k in
+    let last = ends-in-last (m .nodes) (rules .some-node) in
+    let one = one-alternative (lastOf (m .nodes) .formula) (rules .one-goal (last .0) _ (last .1)) in
+    rules .nodes (length (last .0)) (lastOf (m .nodes))
+    (subst (λ (ns : List Node). At ns (length (last .0)) (lastOf (m .nodes))) (sym (last .1)) (at-last (last .0)))
+    .alternatives (goalOf m) (subst (λ (f : Formula). List·Memᴰ (goalOf m) f) (sym one) (List·Memᴰ·head refl))
+
+pub rules-are-000s : (shop : List ℕ) → checkShop shop ≡ passed → RulesAre000s shop
+rules-are-000s shop e =
+    let rules = shop-rules shop e in
+    record {
+      domain-is = refl;
+      act-iff = λ a k g h. relevance-is-000s (Shop.atomCount shop) (a .effects) g (rules .few-atoms) (rules .actions a k .effects) h;
+      use-iff = λ m k g h. relevance-is-000s (Shop.atomCount shop) (goalOf m) g (rules .few-atoms) (goal-rules shop e m k) h;
+    }

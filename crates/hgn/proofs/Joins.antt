@@ -1,23 +1,24 @@
 -- The join of two orders as a network: its goals come only after lower goals, and the second's after all of the first's.
 -- Assumes nothing.
-use Prim.Native.Nat.{ℕ, suc, _+_, _≤_, _<_}
+use Prim.Native.Nat.{ℕ, zero, suc, _+_, _≤_, _<_}
 use native.Mathlib.Omega.{arith}
 use native.Mathlib.Nat.{add-zero, zero-add}
-use mathlib.Core.Path.{_≡_, refl, sym, _∙_}
+use mathlib.Core.Path.{_≡_, refl, sym, ap, _∙_, subst}
 use mathlib.Core.List.{List, [], _∷_, _++_, map, List·Memᴰ, Memᴰ·append-left}
-use mathlib.Core.Option.{none}
-use lib.ListN.{length}
-use Rattle.hgn.specs.Lists.{At, here, there}
-use Rattle.hgn.specs.Meaning.{Node, Order}
+use mathlib.Core.Option.{none, Option·none-ne-some}
+use lib.ListN.{length, length-append, length-map}
+use Rattle.hgn.specs.Lists.{At, here, there, below, from}
+use Rattle.hgn.specs.Meaning.{Node, Order, noNode}
 use Rattle.hgn.specs.Network.{order, Waiting, enter, goalsOf}
 use Rattle.hgn.specs.Join.{raised, join}
-use Rattle.hgn.specs.Definition1.{by-row}
+use Rattle.hgn.specs.Definition1.{Listed, by-row, by-method}
 use Rattle.hgn.specs.Questions.{passed}
 use Rattle.hgn.specs.Shop as Shop
 use Rattle.hgn.specs.Shop.{checkShop}
 use Rattle.hgn.specs.Written.{NetworkRules}
-use Rattle.hgn.specs.Readings.{FromSheets, by-sheet, by-join, FirstBeforeSecond}
-use Rattle.hgn.proofs.Tests.{lt-below}
+use Rattle.hgn.specs.Readings.{FromSheets, by-sheet, by-join, FirstBeforeSecond, JoinIs01s, GoalsAfterListed}
+use Rattle.hgn.proofs.Tests.{lt-below, at-getD}
+use Rattle.hgn.proofs.Places.{at-front, at-behind}
 use Rattle.hgn.proofs.Passed.{shop-of-order}
 use Rattle.hgn.proofs.Rules.{network-join}
 use Rattle.hgn.proofs.WrittenSheets.{order-rules}
@@ -34,10 +35,10 @@ from-sheets f = let r = rules-of f in (r .0, numbered (r .1))
 
 -- The goal at place `k`: its name, and its node.
 goal-at : (i : ℕ) {k : ℕ} {q : Waiting} (ns : List Node) → At (enter order none i ns) k q
-    → (q .name .origin ≡ order) × (q .name .number ≡ i + k) × ((n : Node) × At ns k n × (q .after ≡ n .after))
+    → (q .name .origin ≡ order) × (q .name .number ≡ i + k) × ((n : Node) × At ns k n × (q .after ≡ n .after)) × (q .parent ≡ none)
 unfolding enter
-goal-at i (n ∷ ns) here = (refl, sym (add-zero i), (n, here, refl))
-goal-at i (n ∷ ns) (there h) = let r = goal-at (suc i) ns h in (r .0, omega arith, (r .2 .0, there (r .2 .1), r .2 .2))
+goal-at i (n ∷ ns) here = (refl, sym (add-zero i), (n, here, refl), refl)
+goal-at i (n ∷ ns) (there h) = let r = goal-at (suc i) ns h in (r .0, omega arith, (r .2 .0, there (r .2 .1), r .2 .2), r .3)
 
 -- A raised node comes after every node below `g`.
 after-first : (g : ℕ) {k : ℕ} {n : Node} (ns ms : List Node) → At (ns ++ map (raised g) ms) k n → length ns ≤ k
@@ -54,3 +55,51 @@ first-before-second a b i j p q h k l m =
     let x = goal-at 0 _ h in
     let y = goal-at 0 _ k in
     by-row (x .0 ∙ sym (y .0)) (rw (x .1, zero-add, y .2 .2) (after-first _ (a .goals) (b .goals) (y .2 .1) m i l))
+
+-- One node stands at a place.
+at-one : {k : ℕ} {m n : Node} (ns : List Node) → At ns k m → At ns k n → m ≡ n
+at-one ns h k = sym (at-getD noNode h) ∙ at-getD noNode k
+
+pub goals-after-listed : GoalsAfterListed
+unfolding goalsOf
+goals-after-listed o i j p q n h k a =
+    let x = goal-at 0 _ h in
+    let y = goal-at 0 _ k in
+    let number : p .name .number ≡ i = x .1 ∙ zero-add i in
+    let after : q .after ≡ n .after = y .2 .2 ∙ ap (λ (m : Node). m .after) (at-one _ (y .2 .1) a) in
+    (rows number after (x .3), λ m. by-row (x .0 ∙ sym (y .0)) (rw (number, after) m))
+  where
+    rows : p .name .number ≡ i → q .after ≡ n .after → p .parent ≡ none → Listed p q → List·Memᴰ i (n .after)
+    rows number after parent (by-row s m) = rw (number, after) at m
+    rows number after parent (by-method s) = absurd (Option·none-ne-some _ (sym parent ∙ s))
+
+below-from : (n i : ℕ) → from i (suc n) ≡ from i n ++ ((i + n) ∷ [])
+unfolding from
+below-from zero i = ap {B = List ℕ} (λ k. k ∷ []) (sym (add-zero i))
+below-from (suc n) i =
+    ap {B = List ℕ} (_∷_ i) (below-from n (suc i) ∙ ap {B = List ℕ} (λ k. from (suc i) n ++ (k ∷ [])) (omega arith))
+
+below-is : (n : ℕ) → below n ≡ from 0 n
+unfolding below from
+below-is zero = refl
+below-is (suc n) =
+    ap {B = List ℕ} (λ l. l ++ (n ∷ [])) (below-is n) ∙ ap {B = List ℕ} (λ k. from 0 n ++ (k ∷ [])) (sym (zero-add n)) ∙ sym (below-from n 0)
+
+at-mapped : {k : ℕ} {n : Node} (f : Node → Node) {ns : List Node} → At ns k n → At (map f ns) k (f n)
+at-mapped f here = here
+at-mapped f (there h) = there (at-mapped f h)
+
+pub joins-are-01s : (a b : Order) → JoinIs01s a b
+unfolding join raised
+joins-are-01s a b = record {
+  start = refl;
+  first = λ k n h. at-front _ h;
+  second = λ k n h.
+      subst
+      (λ (l : List ℕ).
+      At (join a b .goals) (length (a .goals) + k)
+      (record { after = l ++ map (λ i. length (a .goals) + i) (n .after); formula = n .formula }))
+      (below-is (length (a .goals)))
+      (at-behind (a .goals) (at-mapped (raised (length (a .goals))) h));
+  alone = length-append (a .goals) _ ∙ ap (λ (k : ℕ). length (a .goals) + k) (length-map (b .goals) (raised (length (a .goals))));
+}

@@ -211,6 +211,15 @@ unfolding methodRows any
 method-nodes m =
     parts-blocks (has 7) nodeRows node-block (row 2 0 ∷ conjunctRows 3 4 (m .needs)) (conjunct-none (λ k. eqb k 7) 3 4 refl refl (m .needs)) (m .nodes)
 
+pub order-nodes : (o : Order) → parts (has 7) (orderRows o) ≡ map nodeRows (o .goals)
+unfolding orderRows
+order-nodes o = parts-blocks (has 7) nodeRows node-block (map (row 12) (o .start)) (values-none (λ k. eqb k 7) 12 refl (o .start)) (o .goals)
+
+pub node-alternatives : (n : Node) → parts (has 8) (nodeRows n) ≡ map alternativeRows (n .formula)
+unfolding nodeRows any
+node-alternatives n =
+    parts-blocks (has 8) alternativeRows alternative-block (row 7 0 ∷ map (row 11) (n .after)) (values-none (λ k. eqb k 8) 11 refl (n .after)) (n .formula)
+
 pub method-needs : (m : Method) → literals 3 4 (methodRows m) ≡ literals 3 4 (upTo (has 7) (methodRows m))
 unfolding methodOf literals
 method-needs m =

@@ -19,7 +19,7 @@ use Rattle.hgn.specs.Written.{actionRows, methodRows, domainRows, orderR
 use Rattle.hgn.specs.Written.{ShopIsWritten, OrderIsWritten, TraceIsWritten, SheetsAreWritten}
 use Rattle.hgn.proofs.Passed.{shop-passed, passed-shop, order-passed, passed-order, trace-passed, passed-trace}
 use Rattle.hgn.proofs.Traces.{words-steps, words-pass-trace, steps-length, trace-is-words}
-use Rattle.hgn.proofs.Readback.{domain-parts, domain-read, order-read, none-opens, words-read, words-back, words-length}
+use Rattle.hgn.proofs.Readback.{domain-parts, method-nodes, order-nodes, node-alternatives, domain-read, order-read, none-opens, words-read, words-back, words-length}
 use Rattle.hgn.proofs.Grammar.{DomainRead, OrderRead, domain-of, domain-passes, order-of, order-passes}
 
 -- Words.
@@ -251,4 +251,9 @@ traces shop sheet trace e = record {
 }
 
 pub sheets-are-written : SheetsAreWritten
-sheets-are-written = record { shops = shops; orders = orders; traces = traces }
+sheets-are-written = record {
+  shops = shops;
+  orders = orders;
+  parts = record { of-domain = domain-parts; of-method = method-nodes; of-order = order-nodes; of-node = node-alternatives };
+  traces = traces;
+}

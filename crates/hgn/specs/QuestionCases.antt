@@ -4,8 +4,14 @@
 -- is free, which is not proved here.
 use Prim.Native.Nat.{ℕ, zero, suc}
 use mathlib.Core.Path.{_≡_}
+use mathlib.Core.Bool.{not, _&&_}
 use mathlib.Core.List.{List, [], _∷_, _++_, map}
+use lib.Dec.{eqb}
+use lib.ListN.{length}
+use Rattle.hgn.specs.Lists.{keep, from}
 use Rattle.hgn.specs.Questions.{Refusal, told}
+use Rattle.hgn.specs.Shop.{checkShop}
+use Rattle.hgn.specs.Order.{checkOrder}
 use Rattle.hgn.specs.Trace.{checkTrace}
 use Rattle.hgn.specs.Search.{Searched, search}
 use Rattle.hgn.specs.Cases.{Case, lent, coreShop, coreOrder, noGoalsOrder, refusedCase, coreRefused, expected, computed}
@@ -37,8 +43,9 @@ repeated (suc n) words = words ++ repeated n words
 
 abbrev pub sheetCases : List SheetCase
 sheetCases =
-    -- No words: 1 before 2. Sizes and length wrong: 2 before 3. Length and a tag wrong: 3 before 4.
+    -- No words: 1 before 2. One word too few. Sizes and length wrong: 2 before 3. Length and a tag wrong: 3 before 4.
     ofShop [] 1 0
+    ∷ ofShop (1 ∷ 0 ∷ 0 ∷ []) 1 0
     ∷ ofShop (0 ∷ 0 ∷ 0 ∷ 0 ∷ 0 ∷ []) 2 0
     ∷ ofShop ((1 ∷ 0 ∷ 0 ∷ 1 ∷ []) ++ (9 ∷ 0 ∷ 0 ∷ [])) 3 0
     -- Tag and value of row 1 wrong: 4 before 5. A value of row 1 wrong. Row 2 does not rise, and the sheet ends there: 6 before 7.
@@ -47,6 +54,14 @@ sheetCases =
     ∷ ofShop ((1 ∷ 0 ∷ 1 ∷ 3 ∷ []) ++ (2 ∷ 3 ∷ 3 ∷ []) ++ (0 ∷ 0 ∷ 0 ∷ [])) 6 2
     -- Row 2 does not rise, and the tag of row 3 is wrong: all questions of a row before those of the next.
     ∷ ofShop ((1 ∷ 0 ∷ 1 ∷ 4 ∷ []) ++ (2 ∷ 3 ∷ 3 ∷ 1 ∷ []) ++ (0 ∷ 0 ∷ 0 ∷ 0 ∷ [])) 6 2
+    -- Nor does row 2 in the group of 5 and 6, row 5 in that of 11, row 4 in that of 9 and 10.
+    ∷ ofShop ((1 ∷ 1 ∷ 0 ∷ 3 ∷ []) ++ (1 ∷ 5 ∷ 6 ∷ []) ++ (0 ∷ 0 ∷ 0 ∷ [])) 6 2
+    ∷ ofShop ((1 ∷ 0 ∷ 1 ∷ 6 ∷ []) ++ (2 ∷ 7 ∷ 8 ∷ 7 ∷ 11 ∷ 11 ∷ []) ++ repeated 6 (0 ∷ [])) 6 5
+    ∷ ofShop ((1 ∷ 0 ∷ 1 ∷ 5 ∷ []) ++ (2 ∷ 7 ∷ 8 ∷ 9 ∷ 10 ∷ []) ++ repeated 5 (0 ∷ [])) 6 4
+    -- The values of 2, 7 and 8 are 0.
+    ∷ ofShop ((1 ∷ 0 ∷ 1 ∷ 1 ∷ []) ++ (2 ∷ 1 ∷ [])) 5 0
+    ∷ ofShop ((1 ∷ 0 ∷ 1 ∷ 2 ∷ []) ++ (2 ∷ 7 ∷ []) ++ (0 ∷ 1 ∷ [])) 5 1
+    ∷ ofShop ((1 ∷ 0 ∷ 1 ∷ 3 ∷ []) ++ (2 ∷ 7 ∷ 8 ∷ []) ++ (0 ∷ 0 ∷ 1 ∷ [])) 5 2
     -- The first node is listed after itself; and so is the first node of the second method, since each method counts its own nodes.
     ∷ ofShop ((1 ∷ 0 ∷ 1 ∷ 4 ∷ []) ++ (2 ∷ 7 ∷ 11 ∷ 8 ∷ []) ++ repeated 4 (0 ∷ [])) 5 2
     ∷ ofShop ((1 ∷ 0 ∷ 2 ∷ 7 ∷ []) ++ (2 ∷ 7 ∷ 8 ∷ 2 ∷ 7 ∷ 11 ∷ 8 ∷ []) ++ repeated 7 (0 ∷ [])) 5 5
@@ -69,8 +84,9 @@ sheetCases =
     ∷ ofShop (1 ∷ 0 ∷ 256 ∷ 0 ∷ []) 2 0
     ∷ ofShop (1 ∷ 0 ∷ 0 ∷ 4000 ∷ []) 3 0
     ∷ ofShop (1 ∷ 0 ∷ 0 ∷ 4001 ∷ []) 2 0
-    -- No words: 11 before 12. Another F and a wrong length: 12 before 13. Length and a tag wrong: 13 before 14.
+    -- No words: 11 before 12. One word too few. Another F and a wrong length: 12 before 13. Length and a tag wrong: 13 before 14.
     ∷ ofOrder [] 11 0
+    ∷ ofOrder (1 ∷ 0 ∷ []) 11 0
     ∷ ofOrder (2 ∷ 0 ∷ 0 ∷ 0 ∷ []) 12 0
     ∷ ofOrder ((1 ∷ 0 ∷ 1 ∷ []) ++ (9 ∷ 0 ∷ 0 ∷ [])) 13 0
     -- Tag and value of row 1 wrong: 14 before 15. A value of row 3 wrong. Row 1 does not rise, and the sheet ends in a node: 16 before 17.
@@ -91,6 +107,61 @@ sheetCases =
     ∷ ofTrace (4096 ∷ []) 23 0
     ∷ ofTrace (0 ∷ []) 0 0
     ∷ []
+
+-- Which tag may follow: tags of a sheet's rows, and those of 0 to 13 that are allowed behind them.
+pub record FollowCase : Type 0 where
+  pub tags : List ℕ
+  pub allowed : List ℕ
+
+abbrev pub follow : List ℕ → List ℕ → FollowCase
+follow tags allowed = record { tags = tags; allowed = allowed }
+
+-- "at the start 1 or 2; after 1, or 3 or 4 of an action: 3, 4, 5, 6, 1, 2; after 5 or 6: 5, 6, 1, 2; after 2, or 3 or 4 of a method: 3, 4, 7;
+-- after 7 or 11: 11, 8; after 8, 9 or 10: 9, 10, 8, 7, 2".
+abbrev pub shopFollows : List FollowCase
+shopFollows =
+    follow [] (1 ∷ 2 ∷ [])
+    ∷ follow (1 ∷ []) (1 ∷ 2 ∷ 3 ∷ 4 ∷ 5 ∷ 6 ∷ [])
+    ∷ follow (1 ∷ 3 ∷ []) (1 ∷ 2 ∷ 3 ∷ 4 ∷ 5 ∷ 6 ∷ [])
+    ∷ follow (1 ∷ 4 ∷ []) (1 ∷ 2 ∷ 3 ∷ 4 ∷ 5 ∷ 6 ∷ [])
+    ∷ follow (1 ∷ 5 ∷ []) (1 ∷ 2 ∷ 5 ∷ 6 ∷ [])
+    ∷ follow (1 ∷ 6 ∷ []) (1 ∷ 2 ∷ 5 ∷ 6 ∷ [])
+    ∷ follow (2 ∷ []) (3 ∷ 4 ∷ 7 ∷ [])
+    ∷ follow (2 ∷ 3 ∷ []) (3 ∷ 4 ∷ 7 ∷ [])
+    ∷ follow (2 ∷ 4 ∷ []) (3 ∷ 4 ∷ 7 ∷ [])
+    ∷ follow (2 ∷ 7 ∷ []) (8 ∷ 11 ∷ [])
+    ∷ follow (2 ∷ 7 ∷ 8 ∷ 7 ∷ 11 ∷ []) (8 ∷ 11 ∷ [])
+    ∷ follow (2 ∷ 7 ∷ 8 ∷ []) (2 ∷ 7 ∷ 8 ∷ 9 ∷ 10 ∷ [])
+    ∷ follow (2 ∷ 7 ∷ 8 ∷ 9 ∷ []) (2 ∷ 7 ∷ 8 ∷ 9 ∷ 10 ∷ [])
+    ∷ follow (2 ∷ 7 ∷ 8 ∷ 10 ∷ []) (2 ∷ 7 ∷ 8 ∷ 9 ∷ 10 ∷ [])
+    ∷ []
+
+-- "In an order sheet: at the start and after 12: 12, 7; after 7 or 11: 11, 8; after 8, 9 or 10: 9, 10, 8, 7."
+abbrev pub orderFollows : List FollowCase
+orderFollows =
+    follow [] (7 ∷ 12 ∷ [])
+    ∷ follow (12 ∷ []) (7 ∷ 12 ∷ [])
+    ∷ follow (7 ∷ []) (8 ∷ 11 ∷ [])
+    ∷ follow (7 ∷ 8 ∷ 7 ∷ 11 ∷ []) (8 ∷ 11 ∷ [])
+    ∷ follow (7 ∷ 8 ∷ []) (7 ∷ 8 ∷ 9 ∷ 10 ∷ [])
+    ∷ follow (7 ∷ 8 ∷ 9 ∷ []) (7 ∷ 8 ∷ 9 ∷ 10 ∷ [])
+    ∷ follow (7 ∷ 8 ∷ 10 ∷ []) (7 ∷ 8 ∷ 9 ∷ 10 ∷ [])
+    ∷ []
+
+-- N, then these tags, then a value 0 for each.
+abbrev pub zeroRows : List ℕ → List ℕ
+zeroRows tags = length tags ∷ tags ++ repeated (length tags) (0 ∷ [])
+
+abbrev pub shopTold : List ℕ → Refusal
+shopTold tags = told (checkShop ((1 ∷ 0 ∷ 0 ∷ []) ++ zeroRows tags))
+
+abbrev pub orderTold : List ℕ → Refusal
+orderTold tags = told (checkOrder (1 ∷ 0 ∷ 0 ∷ 0 ∷ []) ((1 ∷ 0 ∷ []) ++ zeroRows tags))
+
+-- The tags behind which the sheet is not refused by this question at that row.
+abbrev pub allowedBy : (List ℕ → Refusal) → ℕ → FollowCase → List ℕ
+allowedBy toldOf q c =
+    keep (λ t. not (eqb (toldOf (c .tags ++ (t ∷ [])) .number) q && eqb (toldOf (c .tags ++ (t ∷ [])) .place) (length (c .tags)))) (from 0 14)
 
 abbrev pub toldOf : SheetCase → Refusal
 toldOf c = told (checkTrace (c .shop) (c .order) (c .trace))
@@ -173,6 +244,17 @@ twiceShop = (1 ∷ 0 ∷ 1 ∷ 7 ∷ []) ++ (2 ∷ 7 ∷ 8 ∷ 9 ∷ 7 ∷ 8 ∷
 abbrev pub twiceOrder : List ℕ
 twiceOrder = (1 ∷ 2 ∷ 7 ∷ []) ++ (12 ∷ 7 ∷ 8 ∷ 9 ∷ 7 ∷ 8 ∷ 9 ∷ []) ++ repeated 7 (0 ∷ [])
 
+-- One goal whose one alternative has no rows; and one goal that wants the atom true, where it is true at first.
+abbrev pub wantAlways : List ℕ
+wantAlways = (1 ∷ 1 ∷ 2 ∷ []) ++ (7 ∷ 8 ∷ []) ++ (0 ∷ 0 ∷ [])
+
+abbrev pub heldOrder : List ℕ
+heldOrder = (1 ∷ 1 ∷ 4 ∷ []) ++ (12 ∷ 7 ∷ 8 ∷ 9 ∷ []) ++ repeated 4 (0 ∷ [])
+
+-- Two actions of cost 0, both for atom 0.
+abbrev pub equalShop : List ℕ
+equalShop = (1 ∷ 2 ∷ 0 ∷ 4 ∷ []) ++ (1 ∷ 5 ∷ 1 ∷ 5 ∷ []) ++ repeated 4 (0 ∷ [])
+
 -- A trace that is accepted.
 abbrev pub acceptedCase : List ℕ → List ℕ → List ℕ → ℕ → List ℕ → ℕ → ℕ → List ℕ → Case
 acceptedCase shop order trace steps atoms count cost room = record {
@@ -196,6 +278,9 @@ stepCases =
     ∷ coreRefused ((2 ∷ []) ++ (256 ∷ 5 ∷ []) ++ (0 ∷ 9 ∷ [])) 25 1
     ∷ coreRefused ((2 ∷ []) ++ (256 ∷ 5 ∷ []) ++ (0 ∷ 4 ∷ [])) 26 1
     ∷ coreRefused ((2 ∷ []) ++ (256 ∷ 2 ∷ []) ++ (0 ∷ 4 ∷ [])) 28 1
+    -- The numbers before method 0 and behind the last method are no moves.
+    ∷ coreRefused (1 ∷ 255 ∷ 0 ∷ []) 26 0
+    ∷ coreRefused (1 ∷ 257 ∷ 0 ∷ []) 26 0
     -- Action 2, whose needs do not hold, and which is not relevant to atom 3: 30 before 31.
     ∷ coreRefused (1 ∷ 2 ∷ 0 ∷ []) 30 0
     -- A need of an atom false, which is true; a goal that wants it false.
@@ -221,6 +306,11 @@ stepCases =
     -- An action relevant by what it makes false; and one that is not, since it makes false what is wanted true.
     ∷ acceptedCase clearShop wantClear ((2 ∷ []) ++ (1 ∷ 0 ∷ []) ++ (0 ∷ 0 ∷ [])) 2 [] 1 0 (1 ∷ 91 ∷ 92 ∷ 93 ∷ 94 ∷ 95 ∷ 96 ∷ 97 ∷ 98 ∷ 99 ∷ 100 ∷ 101 ∷ [])
     ∷ refusedCase mixedShop wantBoth (1 ∷ 1 ∷ 0 ∷ []) 31 0
+    -- An alternative with no rows is always true.
+    ∷ acceptedCase fullShop wantAlways (1 ∷ 0 ∷ 0 ∷ []) 1 [] 0 0 lent
+    -- An action for a goal that holds already; and a method used twice at one goal, which holds already.
+    ∷ acceptedCase equalShop heldOrder ((2 ∷ []) ++ (1 ∷ 0 ∷ []) ++ (0 ∷ 0 ∷ [])) 2 (0 ∷ []) 1 0 (1 ∷ 91 ∷ 92 ∷ 93 ∷ 94 ∷ 95 ∷ 96 ∷ 97 ∷ 98 ∷ 99 ∷ 100 ∷ 101 ∷ [])
+    ∷ acceptedCase fullShop heldOrder ((5 ∷ []) ++ (256 ∷ 0 ∷ 256 ∷ 0 ∷ 0 ∷ []) ++ repeated 5 (0 ∷ [])) 5 (0 ∷ []) 0 0 lent
     -- A method of one node where 63 wait: it is used, and 64 wait; where 64 wait: 32; and where it is not relevant either: 31 before 32.
     ∷ refusedCase fullShop lessThanFullOrder (1 ∷ 256 ∷ 0 ∷ []) 33 1
     ∷ refusedCase fullShop fullOrder (1 ∷ 256 ∷ 0 ∷ []) 32 0
@@ -245,13 +335,24 @@ tieShop = (2 ∷ 2 ∷ 0 ∷ 4 ∷ []) ++ (1 ∷ 5 ∷ 1 ∷ 5 ∷ []) ++ (1 ∷
 abbrev pub tieOrder : List ℕ
 tieOrder = (2 ∷ 2 ∷ 6 ∷ []) ++ (7 ∷ 8 ∷ 9 ∷ 7 ∷ 8 ∷ 9 ∷ []) ++ (0 ∷ 0 ∷ 0 ∷ 0 ∷ 0 ∷ 1 ∷ [])
 
--- Two actions of cost 0, both for atom 0.
-abbrev pub equalShop : List ℕ
-equalShop = (1 ∷ 2 ∷ 0 ∷ 4 ∷ []) ++ (1 ∷ 5 ∷ 1 ∷ 5 ∷ []) ++ repeated 4 (0 ∷ [])
-
 -- Two actions of cost 0: action 1 makes atom 0 true, action 2 both atoms.
 abbrev pub widerShop : List ℕ
 widerShop = (2 ∷ 2 ∷ 0 ∷ 5 ∷ []) ++ (1 ∷ 5 ∷ 1 ∷ 5 ∷ 5 ∷ []) ++ (0 ∷ 0 ∷ 0 ∷ 0 ∷ 1 ∷ [])
+
+-- An action of cost 0 that makes both atoms true; two goals, atom 0 and atom 1, where atom 0 is true at first.
+abbrev pub bothShop : List ℕ
+bothShop = (2 ∷ 1 ∷ 0 ∷ 3 ∷ []) ++ (1 ∷ 5 ∷ 5 ∷ []) ++ (0 ∷ 0 ∷ 1 ∷ [])
+
+abbrev pub firstHeld : List ℕ
+firstHeld = (2 ∷ 2 ∷ 7 ∷ []) ++ (12 ∷ 7 ∷ 8 ∷ 9 ∷ 7 ∷ 8 ∷ 9 ∷ []) ++ (0 ∷ 0 ∷ 0 ∷ 0 ∷ 0 ∷ 0 ∷ 1 ∷ [])
+
+-- Action 1 makes atom 0 true, action 2 atoms 1 and 2, a method is for atom 1. One goal, "0 and 1, or not 2", where 2 is true at first: action 2
+-- is relevant to the method's node alone.
+abbrev pub eitherWay : List ℕ
+eitherWay = (3 ∷ 2 ∷ 1 ∷ 9 ∷ []) ++ (1 ∷ 5 ∷ 1 ∷ 5 ∷ 5 ∷ 2 ∷ 7 ∷ 8 ∷ 9 ∷ []) ++ (0 ∷ 0 ∷ 0 ∷ 1 ∷ 2 ∷ 0 ∷ 0 ∷ 0 ∷ 1 ∷ [])
+
+abbrev pub eitherWanted : List ℕ
+eitherWanted = (3 ∷ 1 ∷ 7 ∷ []) ++ (12 ∷ 7 ∷ 8 ∷ 9 ∷ 9 ∷ 8 ∷ 10 ∷ []) ++ (2 ∷ 0 ∷ 0 ∷ 0 ∷ 1 ∷ 0 ∷ 2 ∷ [])
 
 abbrev pub searchCases : List SearchCase
 searchCases =
@@ -281,6 +382,25 @@ searchCases =
       place = 2;
       exit = (2 ∷ []) ++ (1 ∷ 0 ∷ []) ++ (0 ∷ 0 ∷ []) ++ (95 ∷ 96 ∷ 97 ∷ 98 ∷ 99 ∷ 100 ∷ 101 ∷ []);
     }
+    -- A release before an action, and an action before a method, where either may come first.
+    ∷ record {
+      shop = bothShop;
+      order = firstHeld;
+      depth = 3;
+      room = lent;
+      number = 0;
+      place = 3;
+      exit = (3 ∷ []) ++ (0 ∷ 1 ∷ 0 ∷ []) ++ (0 ∷ 0 ∷ 0 ∷ []) ++ (97 ∷ 98 ∷ 99 ∷ 100 ∷ 101 ∷ []);
+    }
+    ∷ record {
+      shop = eitherWay;
+      order = eitherWanted;
+      depth = 5;
+      room = lent;
+      number = 0;
+      place = 5;
+      exit = (5 ∷ []) ++ (1 ∷ 256 ∷ 2 ∷ 0 ∷ 0 ∷ []) ++ (0 ∷ 0 ∷ 0 ∷ 0 ∷ 0 ∷ []) ++ (101 ∷ []);
+    }
     -- Fewer steps first: action 2 alone, though the trace that begins with action 1 is earlier and of three steps.
     ∷ record {
       shop = widerShop;
@@ -302,5 +422,7 @@ expectedSearch c = record { refusal = record { number = c .number; place = c .pl
 -- Every case comes out as it says.
 pub record QuestionCases : Type 0 where
   pub sheets : map toldOf sheetCases ≡ map refusalOf sheetCases
+  pub follows-in-shop : map (allowedBy shopTold 4) shopFollows ≡ map (λ c. c .allowed) shopFollows
+  pub follows-in-order : map (allowedBy orderTold 14) orderFollows ≡ map (λ c. c .allowed) orderFollows
   pub steps : map computed stepCases ≡ map expected stepCases
   pub searches : map searchedCase searchCases ≡ map expectedSearch searchCases

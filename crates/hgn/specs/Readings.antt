@@ -6,24 +6,26 @@ use Prim.Native.Nat.{ℕ, suc, _+_, _-_, _*_, _≤_, _<_}
 use mathlib.Core.Path.{_≡_}
 use mathlib.Core.Bool.{true, false}
 use mathlib.Core.Logic.{_↔_, _⊎_, _≢_}
-use mathlib.Core.List.{List, [], _∷_, _++_, List·Memᴰ}
+use mathlib.Core.List.{List, [], _∷_, _++_, map, List·Memᴰ}
 use lib.ListN.{length, getD}
-use mathlib.Core.Option.{Option, some}
-use Rattle.hgn.specs.Lists.{At, below}
+use mathlib.Core.Option.{Option, none, some}
+use Rattle.hgn.specs.Lists.{At, below, from}
 use Rattle.hgn.specs.Questions.{Refusal, passed}
 use Rattle.hgn.specs.Questions as Questions
 use Rattle.hgn.specs.Tag.{mostCost}
 use Rattle.hgn.specs.Meaning.{Literal, Formula, Node, Action, Method, Domain, Order, lastOf, goalOf, networkOf}
 use Rattle.hgn.specs.State.{State, mostAtoms, Entails, allHold, EntailsAll, formulaHolds, γ, opposite, LiteralOf, Relevant}
 use Rattle.hgn.specs.Network.{Origin, Name, Waiting, step, free, anyFree, enter, goalsOf, goalAt, released, decomposed}
+use Rattle.hgn.specs.Network as Network
 use Rattle.hgn.specs.Run.{Step, release, act, use-method, unknown, moveOf, known, actionAt, methodAt, Problem, startOf, problemFrom}
 use Rattle.hgn.specs.Run.{Rules, Decided, strict, moved, Deed, Stepped, refused, taken, stepped, costOf}
 use Rattle.hgn.specs.Join.{Accepted, join}
+use Rattle.hgn.specs.Shop as Shop
 use Rattle.hgn.specs.Shop.{domain, mostActions, checkShop}
 use Rattle.hgn.specs.Order.{order, checkOrder}
 use Rattle.hgn.specs.Trace.{sizeWords, stepCount, mostSteps, stepsOf, checkTrace}
 use Rattle.hgn.specs.Replay.{rulesOf, replay}
-use Rattle.hgn.specs.Search.{mostDepth, isFound, searched, search}
+use Rattle.hgn.specs.Search.{Earlier, mostDepth, isFound, searched, search}
 use Rattle.hgn.specs.Written.{ConjunctRules, SheetsAreWritten}
 use Rattle.hgn.specs.Definition1.{Derivation, Listed, Precedes, Unconstrained}
 
@@ -100,6 +102,21 @@ abbrev pub FirstBeforeSecond : Type 0
 FirstBeforeSecond = (a b : Order) (i j : ℕ) (p q : Waiting) → At (goalsOf (join a b)) i p → At (goalsOf (join a b)) j q
     → i < length (a .goals) → length (a .goals) ≤ j → Listed p q
 
+-- The join: "the first's start rows, the first's goals with their rows, then the second's goals in listed order. The 11 rows of each of these
+-- are 0 to G - 1 of the first, then its own raised by that G."
+pub record JoinIs01s (a b : Order) : Type 0 where
+  pub start : join a b .start ≡ a .start
+  pub first : (k : ℕ) (n : Node) → At (a .goals) k n → At (join a b .goals) k n
+  pub second : (k : ℕ) (n : Node) → At (b .goals) k n
+      → At (join a b .goals) (length (a .goals) + k)
+      (record { after = from 0 (length (a .goals)) ++ map (λ i. length (a .goals) + i) (n .after); formula = n .formula })
+  pub alone : length (join a b .goals) ≡ length (a .goals) + length (b .goals)
+
+-- The 11 rows of an order: a goal comes after those that its rows name and after no other.
+abbrev pub GoalsAfterListed : Type 0
+GoalsAfterListed = (o : Order) (i j : ℕ) (p q : Waiting) (n : Node) → At (goalsOf o) i p → At (goalsOf o) j q → At (o .goals) j n
+    → Listed p q ↔ List·Memᴰ i (n .after)
+
 -- The order of a sheet that passes with this shop sheet, or a join of such orders.
 pub data FromSheets (shop : List ℕ) : Order → Type 0 where
   by-sheet : (sheet : List ℕ) → checkOrder shop sheet ≡ passed → FromSheets shop (order sheet)
@@ -158,9 +175,13 @@ NetworksAre000s = (shop : List ℕ) (o : Order) → FromSheets shop o
     → (r : Rules) → r .domain ≡ domain shop → (s : State) (xs : List Step) (P : Problem) → Reached r (problemFrom s o) xs P
     → OrderedNetwork (P .waiting) × Operations (length xs) (P .waiting)
 
--- The places of the waiting list. Document 01: of a release "later places drop by one"; of a method "Its nodes enter directly before that
--- goal, in listed order, with their own afters".
+-- The places of the waiting list. Document 01: at first it "holds the order's goals in listed order"; of a release "later places drop by
+-- one"; of a method "Its nodes enter directly before that goal, in listed order, with their own afters".
 pub record PlacesAre01s : Type 0 where
+  pub goals-as-listed : (o : Order) (k : ℕ) (n : Node) → At (o .goals) k n
+      → At (goalsOf o) k
+      (record { name = record { origin = Network.order; number = k }; parent = none; after = n .after; formula = n .formula })
+  pub goals-alone : (o : Order) → length (goalsOf o) ≡ length (o .goals)
   pub nodes-as-listed : (o : Origin) (parent : Option Name) (nodes : List Node) (k : ℕ) (n : Node) → At nodes k n
       → At (enter o parent 0 nodes) k
       (record { name = record { origin = o; number = k }; parent = parent; after = n .after; formula = n .formula })
@@ -168,6 +189,9 @@ pub record PlacesAre01s : Type 0 where
   pub release-behind : (w : List Waiting) (p i : ℕ) (a : Waiting) → p ≤ i → At w (suc i) a → At (released w p) i a
   pub method-before : (w : List Waiting) (p i : ℕ) (o : Origin) (nodes : List Node) (a : Waiting) → i < p → At w i a
       → At (decomposed w p o nodes) i a
+  pub method-between : (w : List Waiting) (p k : ℕ) (o : Origin) (nodes : List Node) (t : Waiting) (n : Node) → At w p t → At nodes k n
+      → At (decomposed w p o nodes) (p + k)
+      (record { name = record { origin = o; number = k }; parent = some (t .name); after = n .after; formula = n .formula })
   pub method-behind : (w : List Waiting) (p i : ℕ) (o : Origin) (nodes : List Node) (a : Waiting) → p ≤ i → At w i a
       → At (decomposed w p o nodes) (length nodes + i) a
 
@@ -224,6 +248,17 @@ abbrev pub RelevanceIs000s : Type 0
 RelevanceIs000s = (F : ℕ) (effects : List Literal) (g : Formula) → F ≤ mostAtoms → ConjunctRules F effects
     → ((c : List Literal) → List·Memᴰ c g → ConjunctRules F c) → Relevant effects g ↔ RelevantBy000 effects g
 
+-- The rules of a replay and of a search: 000's 'relevant', for the actions and the methods of the shop sheet. "the effects, or for a method its
+-- goal".
+pub record RulesAre000s (shop : List ℕ) : Type 0 where
+  pub domain-is : rulesOf shop .domain ≡ domain shop
+  pub act-iff : (a : Action) → List·Memᴰ a (domain shop .actions)
+      → (g : Formula) → ((c : List Literal) → List·Memᴰ c g → ConjunctRules (Shop.atomCount shop) c)
+      → rulesOf shop .MayAct a g ↔ RelevantBy000 (a .effects) g
+  pub use-iff : (m : Method) → List·Memᴰ m (domain shop .methods)
+      → (g : Formula) → ((c : List Literal) → List·Memᴰ c g → ConjunctRules (Shop.atomCount shop) c)
+      → rulesOf shop .MayUse m g ↔ RelevantBy000 (goalOf m) g
+
 -- The limits that no sheet's rules have in them, as document 01's numbers: "at most 64 goals waiting", and a search's D.
 pub record LimitsAre01s : Type 0 where
   pub waiting : (shop : List ℕ) → rulesOf shop .limit ≡ 64
@@ -242,17 +277,35 @@ pub record CostsAreSums : Type 1 where
   pub short : (r : Rules) (n : ℕ) (P : Problem) (xs : List Step) (plan : List ℕ) (last : State) → Derivation r n P xs plan last
       → length plan ≤ length xs
 
+-- Document 01: "the first differing step decides: lower place, then lower move". The steps `zs` are common to both.
+pub record FirstDiffers (xs ys : List Step) : Type 0 where
+  pub zs : List Step
+  pub x : Step
+  pub y : Step
+  pub us : List Step
+  pub vs : List Step
+  pub first-is : xs ≡ zs ++ (x ∷ us)
+  pub second-is : ys ≡ zs ++ (y ∷ vs)
+  pub lower : (x .place < y .place) ⊎ ((x .place ≡ y .place) × (x .move < y .move))
+
+abbrev pub EarlierIs01s : Type 0
+EarlierIs01s = (xs ys : List Step) → Earlier xs ys ↔ FirstDiffers xs ys
+
 -- All statements of this page.
 pub record Read : Type 1 where
   pub sheets-are-written : SheetsAreWritten
   pub accepted-is-derivation : AcceptedIsDerivation
   pub questions-in-order : QuestionsInOrder
   pub first-before-second : FirstBeforeSecond
+  pub joins-are-01s : (a b : Order) → JoinIs01s a b
+  pub goals-after-listed : GoalsAfterListed
   pub networks-are-000s : NetworksAre000s
   pub places-are-01s : PlacesAre01s
   pub methods-end-in-goals : MethodsEndInGoals
   pub effects-are-gamma : EffectsAreGamma
   pub states-are-sets : StatesAreSetsOfAtoms
   pub relevance-is-000s : RelevanceIs000s
+  pub rules-are-000s : (shop : List ℕ) → checkShop shop ≡ passed → RulesAre000s shop
   pub limits-are-01s : LimitsAre01s
   pub costs-are-sums : CostsAreSums
+  pub earlier-is-01s : EarlierIs01s
