@@ -1,0 +1,2 @@
+-- What the replay program prints for its files' bytes.
+pub mod Printed

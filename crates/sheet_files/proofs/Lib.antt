@@ -1,0 +1,5 @@
+-- Laws of the definitions in the shape that the code asks for.
+pub mod ByIndex
+pub mod Files
+pub mod Decimals
+pub mod Texts
