@@ -1,6 +1,7 @@
 // The public calls. A case gives each the parts that it takes; where it takes D, that stands in the trace's place.
 use crate::line;
 use crate::replayed;
+use crate::room;
 use crate::searched;
 use crate::sheet;
 use crate::stepping;
@@ -8,6 +9,7 @@ use crate::text::equals;
 use sheet_check::check::check_order;
 use sheet_check::check::check_shop;
 use sheet_check::check::check_trace;
+ghost use Rattle.cases_main.specs.Names.{NamedBy};
 
 pub enum Call {
     Shop,
@@ -25,7 +27,9 @@ pub enum Named {
 }
 
 impl Call {
-    pub fn named(name: &[u8]) -> Named {
+    pub fn named(name: &[u8]) -> Named
+        ensures { λ r. ⌜ NamedBy (now (name .entry)) r ⌝ }
+    {
         if equals(name, b"shop") {
             return Named::Call(Call::Shop);
         }
@@ -47,7 +51,7 @@ impl Call {
         Named::Nothing
     }
 
-    fn write_answer<'a>(self, shop: &'a [u16], order: &'a [u16], trace: &[u16], room: &[u8]) {
+    fn write_answer<'a>(self, shop: &'a [u16], order: &'a [u16], trace: &[u16], room: &mut [u16]) {
         match self {
             Call::Shop => line::verdict(check_shop(shop)),
             Call::Order => line::verdict(check_order(shop, order)),
@@ -62,18 +66,25 @@ impl Call {
     pub fn run(self, shop: &[u8], order: &[u8], trace: &[u8], room: &[u8]) {
         let mut words = [0u16; sheet::ROOM];
         let length = sheet::write(&mut words, sheet::SHOP, shop);
-        self.run_on_shop(sheet::front(&words, length), order, trace, room);
+        self.run_on_shop(&words[0..length], order, trace, room);
     }
 
     fn run_on_shop(self, shop: &[u16], order: &[u8], trace: &[u8], room: &[u8]) {
         let mut words = [0u16; sheet::ROOM];
         let length = sheet::write(&mut words, sheet::ORDER, order);
-        self.run_on_order(shop, sheet::front(&words, length), trace, room);
+        self.run_on_order(shop, &words[0..length], trace, room);
     }
 
     fn run_on_order<'a>(self, shop: &'a [u16], order: &'a [u16], trace: &[u8], room: &[u8]) {
         let mut words = [0u16; sheet::ROOM];
         let length = sheet::write(&mut words, sheet::TRACE, trace);
-        self.write_answer(shop, order, sheet::front(&words, length), room);
+        self.run_on_trace(shop, order, &words[0..length], room);
+    }
+
+    fn run_on_trace<'a>(self, shop: &'a [u16], order: &'a [u16], trace: &[u16], room: &[u8]) {
+        let mut words = [0u16; room::MOST];
+        room::fill(&mut words);
+        let length = room::length_of(room);
+        self.write_answer(shop, order, trace, &mut words[0..length]);
     }
 }

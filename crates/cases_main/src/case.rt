@@ -5,13 +5,19 @@ use crate::line;
 use crate::sheet::is_plain;
 use crate::text::begins;
 use crate::text::between;
-use crate::text::equals;
 use crate::text::find;
-use crate::text::front;
 use crate::text::rest;
+use sheet_files::words::front;
+ghost use mathlib.Core.Path.{_≡_};
+ghost use mathlib.Core.Bool.{true};
+ghost use mathlib.Core.Logic.{_↔_};
+ghost use lib.ListN.{length, take};
+ghost use Rattle.cases_main.specs.Names.{withWord};
 
 // Whether a line has the sheets of the cases below it.
-pub fn has_sheets(line: &[u8]) -> bool {
+pub fn has_sheets(line: &[u8]) -> bool
+    ensures { λ r. ⌜ (r ≡ true) ↔ (take (length withWord) (now (line .entry)) ≡ withWord) ⌝ }
+{
     begins(line, b"with ")
 }
 
@@ -22,11 +28,7 @@ fn sheets_of(with: &[u8]) -> &[u8] {
 
 // Whether the parts of a case, from the semicolon on, take the sheets of the last `with` line.
 fn is_same(parts: &[u8]) -> bool {
-    let sheets = between(parts, 0, find(parts, 0, b'|'));
-    if equals(sheets, b" same") {
-        return true;
-    }
-    equals(sheets, b" same ")
+    begins(parts, b"; same |")
 }
 
 fn is_comment(line: &[u8]) -> bool {
@@ -50,45 +52,25 @@ fn is_readable(with: &[u8], parts: &[u8]) -> bool {
     is_plain(rest(parts, 1))
 }
 
-// The case whose trace and room stand behind a bar.
-fn run_from(call: Call, shop: &[u8], order: &[u8], parts: &[u8], bar: usize) {
+// The case on these sheets, whose trace and room stand behind a bar of its parts. Before the shop sheet stands one byte.
+fn run_from(call: Call, sheets: &[u8], parts: &[u8], bar: usize) {
+    let first = find(sheets, 0, b'|');
+    let second = find(sheets, first, b'|');
     let next = find(parts, bar, b'|');
     call.run(
-        shop,
-        order,
+        between(sheets, 0, first),
+        between(sheets, first, second),
         between(parts, bar, next),
         between(parts, next, parts.len()),
     );
 }
 
-fn run_same(call: Call, sheets: &[u8], parts: &[u8]) {
-    let bar = find(sheets, 0, b'|');
-    run_from(
-        call,
-        between(sheets, 0, bar),
-        between(sheets, bar, sheets.len()),
-        parts,
-        find(parts, 0, b'|'),
-    );
-}
-
-fn run_whole(call: Call, parts: &[u8]) {
-    let first = find(parts, 0, b'|');
-    let second = find(parts, first, b'|');
-    run_from(
-        call,
-        between(parts, 0, first),
-        between(parts, first, second),
-        parts,
-        second,
-    );
-}
-
 fn run_parts(call: Call, with: &[u8], parts: &[u8]) {
+    let bar = find(parts, 0, b'|');
     if is_same(parts) {
-        run_same(call, sheets_of(with), parts);
+        run_from(call, sheets_of(with), parts, bar);
     } else {
-        run_whole(call, parts);
+        run_from(call, parts, parts, find(parts, bar, b'|'));
     }
 }
 
@@ -113,20 +95,16 @@ fn run_case(with: &[u8], line: &[u8]) {
     write_unreadable(line);
 }
 
-fn check_sheets(with: &[u8]) {
-    if is_plain(sheets_of(with)) {
-        return;
-    }
-    write_unreadable(with);
-}
-
 // A line, after the last `with` line or none.
 pub fn run_line(with: &[u8], line: &[u8]) {
     if is_comment(line) {
         return;
     }
     if has_sheets(line) {
-        check_sheets(line);
+        if is_plain(sheets_of(line)) {
+            return;
+        }
+        write_unreadable(line);
     } else {
         run_case(with, line);
     }

@@ -38,23 +38,19 @@ fn run_lines(text: &[u8]) {
     }
 }
 
-// The lines of an input of so many bytes, with the newline before them. What leaves no byte free may be the front of more: none of
-// it is run.
-fn run_read(input: &[u8], count: usize) {
-    if count < input.len() {
-        let end = count + 1;
-        if end < input.len() {
-            run_lines(&input[0..end]);
-            return;
-        }
-    }
-    line::text(b"too long: the input has more bytes than the case program takes\n");
-}
-
+// Reads the input behind the newline before it, and runs its lines. What leaves no byte free may be the front of more: none of it is
+// run.
 fn run_input(input: &mut [u8]) {
     if 0 < input.len() {
         let count = io::read_full(STDIN_FILENO, &mut input[1..]);
-        run_read(input, count);
+        if count < input.len() {
+            let end = count + 1;
+            if end < input.len() {
+                run_lines(&input[0..end]);
+                return;
+            }
+        }
+        line::text(b"too long: the input has more bytes than the case program takes\n");
     }
 }
 

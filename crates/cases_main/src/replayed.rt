@@ -2,14 +2,16 @@
 // Refused, the plan is empty and the rest is the whole room.
 use crate::line;
 use crate::room;
-use crate::sheet;
 use replay::answer::Answer;
 use replay::call::replay;
 use sheet_check::check::Shop;
+use sheet_files::words::front_words;
 use sheet_rows::position::Atom;
+ghost use mathlib.Core.Path.{_≡_};
 ghost use Prim.Native.Nat.{_≤_};
 ghost use lib.ListN.{length};
 ghost use Rattle.hgn.specs.State.{mostAtoms};
+ghost use Rattle.hgn.specs.Replay as Replay;
 
 // The first atom from this one on that is not in the state, or their number where there is none.
 fn next_out(atoms: &[bool], from: Atom) -> Atom
@@ -60,22 +62,15 @@ fn write_answer(answer: Answer, room: &[u16]) {
     write_state(atoms);
     let count = answer.count as usize;
     line::text(b"; plan");
-    room::write_list(sheet::front(room, count));
+    room::write_list(front_words(room, count));
     room::write_rest(room, count);
     line::text(b"\n");
 }
 
-fn write_on<'a>(shop: &'a [u16], order: &'a [u16], trace: &[u16], room: &mut [u16]) {
-    room::fill(room);
+// The answer is written, and the room is left as the replay leaves it.
+pub fn write<'a>(shop: &'a [u16], order: &'a [u16], trace: &[u16], room: &mut [u16])
+    ensures { λ _. ⌜ now (room .exit) ≡ Replay.replay (now (shop .entry)) (now (order .entry)) (now (trace .entry)) (now (room .entry)) .room ⌝ }
+{
     let answer = replay(shop, order, trace, room);
     write_answer(answer, room);
-}
-
-// The answer on a room of the length that the text says.
-pub fn write<'a>(shop: &'a [u16], order: &'a [u16], trace: &[u16], text: &[u8]) {
-    let length = room::length_of(text);
-    let mut room = [0u16; room::MOST];
-    if length <= room::MOST {
-        write_on(shop, order, trace, &mut room[0..length]);
-    }
 }

@@ -3,8 +3,10 @@ use crate::line;
 use crate::sheet;
 use sheet_check::check::Trace;
 use sheet_check::rows::word;
-ghost use Prim.Native.Nat.{_<_};
+ghost use mathlib.Core.Path.{_≡_};
+ghost use Prim.Native.Nat.{_<_, _≤_};
 ghost use lib.ListN.{length};
+ghost use Rattle.cases_main.specs.Rooms.{mostRoom, blankAt, Blank};
 
 // The words of a room where a case does not say: the plan of every trace fits.
 const USUAL: u16 = Trace::MOST_STEPS;
@@ -13,18 +15,25 @@ const USUAL: u16 = Trace::MOST_STEPS;
 pub const MOST: usize = u16::MAX as usize;
 
 // The room's length that a case says, or the usual one.
-pub fn length_of(text: &[u8]) -> usize {
+pub fn length_of(text: &[u8]) -> usize
+    ensures { λ r. ⌜ r ≤ mostRoom ⌝ }
+{
     let mut said = [USUAL; 1];
     sheet::write(&mut said, sheet::TRACE, text);
     word(&said, 0) as usize
 }
 
 // What a room's word holds before the call. No move has such a number, and words near each other differ.
-fn blank(at: usize) -> u16 {
+fn blank(at: usize) -> u16
+    ensures { λ r. ⌜ r ≡ blankAt at ⌝ }
+{
     40000 + (at % 20000) as u16
 }
 
-pub fn fill(room: &mut [u16]) {
+// Every word of a room becomes what it holds before a call.
+pub fn fill(room: &mut [u16])
+    ensures { λ _. ⌜ Blank (length (now (room .entry))) (now (room .exit)) ⌝ }
+{
     let mut at = 0;
     while at < room.len() {
         room[at] = blank(at);

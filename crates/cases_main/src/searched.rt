@@ -7,6 +7,9 @@ use sheet_check::check::Trace;
 use sheet_check::rows::word;
 use sheet_check::sizes::TraceSizes;
 use sheet_rows::refusal::Refusal;
+ghost use mathlib.Core.Path.{_≡_};
+ghost use lib.ListN.{getD};
+ghost use Rattle.hgn.specs.Search as Search;
 
 // The words of a room from `from` on, so many, or none where it has fewer.
 fn part(room: &[u16], from: usize, length: usize) -> &[u16] {
@@ -42,17 +45,10 @@ fn write_answer(answer: Refusal, room: &[u16]) {
     line::text(b"\n");
 }
 
-fn write_on<'a>(shop: &'a [u16], order: &'a [u16], depth: u16, room: &mut [u16]) {
-    room::fill(room);
-    let answer = search(shop, order, depth as u32, room);
+// The answer is written, and the room is left as the search leaves it. The first of the words is D.
+pub fn write<'a>(shop: &'a [u16], order: &'a [u16], words: &[u16], room: &mut [u16])
+    ensures { λ _. ⌜ now (room .exit) ≡ Search.search (now (shop .entry)) (now (order .entry)) (getD (now (words .entry)) 0 0) (now (room .entry)) .room ⌝ }
+{
+    let answer = search(shop, order, word(words, 0) as u32, room);
     write_answer(answer, room);
-}
-
-// The answer on a room of the length that the text says, with the first word as D.
-pub fn write<'a>(shop: &'a [u16], order: &'a [u16], words: &[u16], text: &[u8]) {
-    let length = room::length_of(text);
-    let mut room = [0u16; room::MOST];
-    if length <= room::MOST {
-        write_on(shop, order, word(words, 0), &mut room[0..length]);
-    }
 }

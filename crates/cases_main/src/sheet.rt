@@ -4,6 +4,11 @@ use sheet_check::check::Order;
 use sheet_check::check::Shop;
 use sheet_check::check::Trace;
 use sheet_check::rows::word;
+ghost use mathlib.Core.Path.{_≡_};
+ghost use Prim.Native.Nat.{_≤_};
+ghost use lib.ListN.{length};
+ghost use Rattle.hgn.specs.Lists.{all};
+ghost use Rattle.cases_main.specs.Plain.{plainByte};
 
 // How many sizes each begins with; the last of them counts the rows or steps.
 pub const SHOP: u16 = Shop::SIZES as u16;
@@ -56,7 +61,10 @@ fn store(room: &mut [u16], to: usize, number: u16) {
 }
 
 // A text's number. Answers which comes next.
-fn put(room: &mut [u16], sizes: u16, at: usize, number: u16) -> usize {
+fn put(room: &mut [u16], sizes: u16, at: usize, number: u16) -> usize
+    requires { ⌜ at ≤ length (now room) ⌝ }
+    ensures { λ r. ⌜ r ≤ length (now (room .exit)) ⌝ }
+{
     if at < room.len() {
         let to = place(room, sizes, at);
         store(room, to, number);
@@ -66,7 +74,10 @@ fn put(room: &mut [u16], sizes: u16, at: usize, number: u16) -> usize {
 }
 
 impl Pen {
-    fn written(self, room: &mut [u16], sizes: u16) -> Pen {
+    fn written(self, room: &mut [u16], sizes: u16) -> Pen
+        requires { ⌜ self .at ≤ length (now room) ⌝ }
+        ensures { λ r. ⌜ r .at ≤ length (now (room .exit)) ⌝ }
+    {
         let mut pen = self;
         if pen.is_open {
             pen.at = put(room, sizes, pen.at, pen.number);
@@ -76,14 +87,18 @@ impl Pen {
         pen
     }
 
-    fn with_number(self, number: u16) -> Pen {
+    fn with_number(self, number: u16) -> Pen
+        ensures { λ r. ⌜ r .at ≡ self .at ⌝ }
+    {
         let mut pen = self;
         pen.number = number;
         pen.is_open = true;
         pen
     }
 
-    fn with_digit(self, byte: u8) -> Pen {
+    fn with_digit(self, byte: u8) -> Pen
+        ensures { λ r. ⌜ r .at ≡ self .at ⌝ }
+    {
         if byte < b'0' {
             return self;
         }
@@ -95,7 +110,9 @@ impl Pen {
     }
 
     // Behind an opening bracket; the number before it says how often.
-    fn opened(self) -> Pen {
+    fn opened(self) -> Pen
+        ensures { λ r. ⌜ r .at ≡ self .at ⌝ }
+    {
         let mut pen = self;
         pen.times = pen.number;
         pen.turn = 0;
@@ -106,7 +123,9 @@ impl Pen {
     }
 
     // Behind a closing bracket, and for the next turn at the opening one.
-    fn closed(self) -> Pen {
+    fn closed(self) -> Pen
+        ensures { λ r. ⌜ r .at ≡ self .at ⌝ }
+    {
         let mut pen = self;
         if pen.turn < pen.times {
             pen.turn = pen.turn + 1;
@@ -117,7 +136,10 @@ impl Pen {
         pen
     }
 
-    fn read(self, room: &mut [u16], sizes: u16, byte: u8) -> Pen {
+    fn read(self, room: &mut [u16], sizes: u16, byte: u8) -> Pen
+        requires { ⌜ self .at ≤ length (now room) ⌝ }
+        ensures { λ r. ⌜ r .at ≤ length (now (room .exit)) ⌝ }
+    {
         if byte == b' ' {
             return self.written(room, sizes);
         }
@@ -134,8 +156,10 @@ impl Pen {
     }
 }
 
-// Writes a sheet. Answers its length.
-pub fn write(room: &mut [u16], sizes: u16, text: &[u8]) -> usize {
+// Writes a sheet into the first words of a room. Answers its length, or the room's where the sheet is longer.
+pub fn write(room: &mut [u16], sizes: u16, text: &[u8]) -> usize
+    ensures { λ r. ⌜ r ≤ length (now (room .exit)) ⌝ }
+{
     let mut pen = Pen {
         at: 0,
         number: 0,
@@ -159,7 +183,9 @@ pub fn write(room: &mut [u16], sizes: u16, text: &[u8]) -> usize {
 }
 
 // Whether a text has no other bytes than those that sheets, and the bars between them, are written with.
-pub fn is_plain(text: &[u8]) -> bool {
+pub fn is_plain(text: &[u8]) -> bool
+    ensures { λ r. ⌜ r ≡ all plainByte (now (text .entry)) ⌝ }
+{
     let mut at = 0;
     while at < text.len() {
         if !is_plain_byte(text[at]) {
@@ -170,17 +196,11 @@ pub fn is_plain(text: &[u8]) -> bool {
     true
 }
 
-fn is_plain_byte(byte: u8) -> bool {
+fn is_plain_byte(byte: u8) -> bool
+    ensures { λ r. ⌜ r ≡ plainByte byte ⌝ }
+{
     match byte {
         b'0'..=b'9' | b' ' | b',' | b'(' | b')' | b'n' | b'|' => true,
         _ => false,
     }
-}
-
-// The first words of a room.
-pub fn front(room: &[u16], length: usize) -> &[u16] {
-    if length < room.len() {
-        return &room[0..length];
-    }
-    room
 }

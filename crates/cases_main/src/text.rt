@@ -1,4 +1,5 @@
 // Parts of a text.
+use sheet_files::words::front;
 ghost use mathlib.Core.Path.{_≡_};
 ghost use mathlib.Core.Bool.{true};
 ghost use mathlib.Core.Logic.{_↔_};
@@ -32,16 +33,6 @@ pub fn between(text: &[u8], from: usize, to: usize) -> &[u8]
         return &part[from + 1..];
     }
     &part[0..0]
-}
-
-// The bytes before a place, or the whole text where it has no such place.
-pub fn front(text: &[u8], to: usize) -> &[u8]
-    ensures { λ r. ⌜ now r ≡ take to (now (text .entry)) ⌝ }
-{
-    if to < text.len() {
-        return &text[..to];
-    }
-    text
 }
 
 // The bytes from a place on, or none where the text has no such place.

@@ -1,4 +1,5 @@
--- `sheet::write` is safe and ends: the room keeps its length, and the count of turns falls. Assumes nothing.
+-- The room keeps its length, and no more numbers are counted than it has words; the turns fall. Assumes nothing.
+use Prim.Native.Nat.{_≤_}
 use mathlib.Core.Path.{_≡_}
 use borrow.Author.Needs.{needs}
 use lib.ListN.{length}
@@ -6,7 +7,7 @@ use Rattle.cases_main.proofs.sheet.write.Statement.{statement}
 use Rattle.cases_main.proofs.sheet.write.Tie as tie
 
 abbrev Inv-loop : tie.InvT-loop
-Inv-loop room₀ sizes text pen₀ left₀ room pen left = length room ≡ length room₀
+Inv-loop room₀ sizes text pen₀ left₀ room pen left = (length room ≡ length room₀) × (pen .at ≤ length room)
 
 abbrev μ-loop : tie.MeasureT-loop
 μ-loop room₀ sizes text pen₀ left₀ room pen left = left

@@ -1,0 +1,4 @@
+-- What the parts of the case program answer.
+pub mod Names
+pub mod Plain
+pub mod Rooms
