@@ -1,6 +1,6 @@
-//! Traces made by walking in the plain model.
+//! Traces made by walking in the reference model.
 
-use plain::{METHOD_0, Run, Shop};
+use reference::{METHOD_0, Run, Shop};
 
 use crate::draft::Step;
 use crate::random::Random;

@@ -1,6 +1,6 @@
 //! The cases of document 01, marked and unmarked.
 
-use plain::{Budget, Refusal, Stopped, check_order, check_shop, check_trace, replay, search};
+use reference::{Budget, Refusal, Stopped, check_order, check_shop, check_trace, replay, search};
 
 const CORE_ROWS: [(u16, u16); 28] = [
     (1, 3),
@@ -108,7 +108,7 @@ fn no_goals_and_no_steps() {
         (accepted.steps, accepted.plan_count, accepted.cost),
         (0, 0, 0)
     );
-    assert_eq!(accepted.state, plain::Atoms::EMPTY);
+    assert_eq!(accepted.state, reference::Atoms::EMPTY);
     let mut room = [7; 3];
     assert_eq!(search(&core_shop(), &[4, 0, 0], 0, &mut room), Ok(0));
     assert_eq!(room, [0, 7, 7]);
@@ -176,7 +176,7 @@ fn the_search_refuses() {
 #[test]
 fn the_search_stops_when_its_budget_is_spent() {
     let (shop, order) = (core_shop(), core_order());
-    let stopped = plain::search_within(&shop, &order, 10, &mut [0; 21], Budget::steps(5));
+    let stopped = reference::search_within(&shop, &order, 10, &mut [0; 21], Budget::steps(5));
     assert_eq!(stopped, Err(Stopped::BudgetSpent));
 }
 

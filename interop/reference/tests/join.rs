@@ -1,6 +1,6 @@
 //! The join of two orders as a network.
 
-use plain::{Atoms, MAX_GOALS, Network, Rules, Shop, Trace, Unaccepted, run};
+use reference::{Atoms, MAX_GOALS, Network, Rules, Shop, Trace, Unaccepted, run};
 
 /// Two atoms; action 1 makes atom 0 true, action 2 makes atom 1 true and atom 0
 /// false.

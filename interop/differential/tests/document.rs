@@ -1,9 +1,9 @@
 //! The cases of document 01, asked of both sides.
 
-use evidence::compare::{self, Tally};
-use evidence::cores;
-use evidence::draft::{Row, Sheet, Step, trace_words};
-use evidence::random::Random;
+use differential::compare::{self, Tally};
+use differential::cores;
+use differential::draft::{Row, Sheet, Step, trace_words};
+use differential::random::Random;
 
 /// Number, place, plan count and cost of a replay on which both sides agree.
 fn replay(shop: &[u16], order: &[u16], steps: &[Step]) -> [u32; 4] {

@@ -1,4 +1,4 @@
-//! Evidence about the proved library: inputs, comparisons with the plain model,
+//! Evidence about the proved library: inputs, comparisons with the reference model,
 //! and what the benchmarks measure. The tests stand in `tests/`.
 
 #![forbid(unsafe_code)]

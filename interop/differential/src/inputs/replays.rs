@@ -1,6 +1,6 @@
 //! The sheets that are checked and the traces that are replayed.
 
-use plain::{MAX_GOALS, MAX_ROWS, MAX_STEPS, METHOD_0};
+use reference::{MAX_GOALS, MAX_ROWS, MAX_STEPS, METHOD_0};
 
 use super::{Check, Replay, check, goals, replay, switch};
 use crate::cores;
@@ -43,7 +43,7 @@ fn switches(atoms: u16) -> Shop {
 
 /// Two sheets of 4,000 rows each: actions, methods and goals of common size.
 fn full_sheets() -> (Shop, Order) {
-    let atoms = plain::MAX_ATOMS;
+    let atoms = reference::MAX_ATOMS;
     let action = |n: u16| Action {
         cost: n,
         needs: vec![(n % 100, true), (100 + n % 50, false)],
@@ -115,12 +115,12 @@ fn method_steps(waiting: u16) -> Vec<Step> {
 
 /// 64 goals and as many of the last actions, in two sheets of 4,000 rows.
 fn full_replay() -> (Shop, Order, Vec<Step>) {
-    let atoms = plain::MAX_ATOMS;
+    let atoms = reference::MAX_ATOMS;
     let goals_wanted = MAX_GOALS as u16;
-    let first_atom = plain::MAX_ACTIONS - goals_wanted;
+    let first_atom = reference::MAX_ACTIONS - goals_wanted;
     let mut shop = switches(atoms);
-    shop.actions.truncate(usize::from(plain::MAX_ACTIONS));
-    shop.methods.truncate(usize::from(plain::MAX_METHODS));
+    shop.actions.truncate(usize::from(reference::MAX_ACTIONS));
+    shop.methods.truncate(usize::from(reference::MAX_METHODS));
     shop.methods[0].nodes.insert(0, Node::wanting(&[0], &[]));
     let rows = shop.sheet().rows.len();
     fill(&mut shop.methods[0].nodes[0], rows);

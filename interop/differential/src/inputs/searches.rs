@@ -1,6 +1,6 @@
 //! What is searched.
 
-use plain::MAX_DEPTH;
+use reference::MAX_DEPTH;
 
 use super::{Search, goals, search, switch};
 use crate::cores;
@@ -66,7 +66,7 @@ fn core_search(cores: u16, chained: bool, depth: u32) -> Search {
 
 /// Goals that many moves are relevant to, though no move's needs ever hold.
 fn hopeless() -> (Shop, Order) {
-    let atoms = plain::MAX_ATOMS;
+    let atoms = reference::MAX_ATOMS;
     let never = vec![(atoms - 1, true)];
     let action = |n: u16| Action {
         cost: 1,

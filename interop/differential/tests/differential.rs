@@ -1,24 +1,24 @@
-//! The proved library against the plain model on generated inputs: a test for
+//! The proved library against the reference model on generated inputs: a test for
 //! each group of cases.
 //!
 //! `LIROPUVA_ROUNDS=10` runs ten times as many cases; `LIROPUVA_SEED=n` runs
 //! the one case with that seed.
 
-use evidence::compare::{self, Counts, Tally};
-use evidence::draft::{Order, Shop, Step, trace_words};
-use evidence::generate::{self, Size};
-use evidence::random::Random;
-use evidence::walk::{self, Habit};
-use evidence::{damage, runner};
+use differential::compare::{self, Counts, Tally};
+use differential::draft::{Order, Shop, Step, trace_words};
+use differential::generate::{self, Size};
+use differential::random::Random;
+use differential::walk::{self, Habit};
+use differential::{damage, runner};
 use liropuva::{QUESTIONS, Subject};
-use plain::{MAX_GOALS, MAX_ROWS, MAX_STEPS, METHOD_0, Network, Rules, Run};
+use reference::{MAX_GOALS, MAX_ROWS, MAX_STEPS, METHOD_0, Network, Rules, Run};
 
 /// The question that no input fails: the goal at place 0 is always free.
 const NEVER_TOLD: u32 = 27;
 /// How often a group answers each number that it must reach.
 const LEAST_EACH: u64 = 100;
 
-/// A plain search that tries more steps than this is not compared.
+/// A reference search that tries more steps than this is not compared.
 const STEPS_TRIED: u64 = 20_000;
 const DEEP_STEPS_TRIED: u64 = 100_000;
 
@@ -26,12 +26,12 @@ const DEEP_STEPS_TRIED: u64 = 100_000;
 /// question 41.
 const WIDE_DEPTHS: [u32; 4] = [65_536, 65_537, 65_568, u32::MAX];
 
-/// A well-formed shop and order, as words and as the plain model reads them.
+/// A well-formed shop and order, as words and as the reference model reads them.
 struct Domain {
     draft: (Shop, Order),
     shop_words: Vec<u16>,
     order_words: Vec<u16>,
-    shop: plain::Shop,
+    shop: reference::Shop,
     order: Network,
 }
 
@@ -39,7 +39,7 @@ impl Domain {
     fn new(shop: Shop, order: Order) -> Domain {
         let shop_words = shop.words();
         let order_words = order.words();
-        let read = plain::Shop::read(&shop_words).expect("a well-formed shop");
+        let read = reference::Shop::read(&shop_words).expect("a well-formed shop");
         Domain {
             order: Network::read(&read, &order_words).expect("a well-formed order"),
             shop: read,
@@ -269,11 +269,11 @@ fn long_case(random: &mut Random, tally: &mut Tally) {
 
 /// Repeats an action without needs, if one was taken, until there are `most`
 /// steps: what was accepted still is.
-fn fill_steps(steps: &mut Vec<Step>, shop: &plain::Shop, most: usize) {
+fn fill_steps(steps: &mut Vec<Step>, shop: &reference::Shop, most: usize) {
     let repeats = |&(_, word): &Step| {
         let action = usize::from(word).checked_sub(1);
         let action = action.and_then(|index| shop.actions.get(index));
-        action.is_some_and(|action| action.needs == plain::Literals::EMPTY)
+        action.is_some_and(|action| action.needs == reference::Literals::EMPTY)
     };
     if let Some(number) = steps.iter().position(repeats) {
         let step = steps[number];
@@ -331,7 +331,7 @@ fn naive_search_case(random: &mut Random, tally: &mut Tally) {
     let expected = (0..=depth).find_map(|steps| first_trace(&domain.shop, &domain.run(), steps));
     let mut room = vec![0; 1 + 2 * depth];
     let (shop, order) = (&domain.shop_words, &domain.order_words);
-    let found = plain::search(shop, order, depth as u32, &mut room);
+    let found = reference::search(shop, order, depth as u32, &mut room);
     match expected {
         Some(steps) => {
             assert_eq!(found, Ok(steps.len()));
@@ -350,7 +350,7 @@ fn naive_search_case(random: &mut Random, tally: &mut Tally) {
 }
 
 /// The first accepted way on with exactly `left` steps, without any pruning.
-fn first_trace(shop: &plain::Shop, run: &Run<'_>, left: usize) -> Option<Vec<Step>> {
+fn first_trace(shop: &reference::Shop, run: &Run<'_>, left: usize) -> Option<Vec<Step>> {
     if left == 0 {
         return run.waiting().is_empty().then(Vec::new);
     }

@@ -3,7 +3,7 @@
 use crate::draft::{Action, Literal, Method, Node, Order, Shop};
 use crate::random::Random;
 
-const MAX_ROWS: usize = plain::MAX_ROWS as usize;
+const MAX_ROWS: usize = reference::MAX_ROWS as usize;
 
 /// How large a generated domain is.
 #[derive(Clone, Copy, Debug, PartialEq, Eq)]

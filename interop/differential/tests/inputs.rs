@@ -1,11 +1,11 @@
 //! The inputs of the benchmarks are what their names say.
 
-use evidence::compare::{self, Tally};
-use evidence::draft::{Step, trace_words};
-use evidence::inputs::{self, Search};
-use evidence::random::Random;
+use differential::compare::{self, Tally};
+use differential::draft::{Step, trace_words};
+use differential::inputs::{self, Search};
+use differential::random::Random;
 
-/// A search that tries more steps than this on the plain side is not compared.
+/// A search that tries more steps than this on the reference side is not compared.
 const STEPS_TRIED: u64 = 20_000;
 
 fn find(name: &str) -> Search {

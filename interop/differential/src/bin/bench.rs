@@ -1,4 +1,4 @@
-//! Times the proved library and the plain model on the same inputs, in one
+//! Times the proved library and the reference model on the same inputs, in one
 //! process.
 //!
 //! The arguments `checks`, `replays` and `searches` choose groups of inputs; any
@@ -10,8 +10,8 @@ use std::process::{Command, ExitCode, Stdio};
 use std::time::{Duration, Instant};
 use std::{env, io, thread};
 
-use evidence::inputs::{self, Check, Replay, Search};
-use plain::{Budget, Stopped};
+use differential::inputs::{self, Check, Replay, Search};
+use reference::{Budget, Stopped};
 
 const ROUNDS: usize = 30;
 /// No round begins later than this.
@@ -51,7 +51,7 @@ impl Time {
 }
 
 /// A line of the table. `slower / faster` is the ratio that it gives.
-fn print_line(name: &str, proved: Time, plain: Time, (slower, faster): (Time, Time)) {
+fn print_line(name: &str, proved: Time, reference: Time, (slower, faster): (Time, Time)) {
     let ratio = slower.seconds() / faster.seconds();
     let ratio = match (slower, faster) {
         (Time::Took(_), Time::Took(_)) => format!("{ratio:.2}"),
@@ -59,11 +59,11 @@ fn print_line(name: &str, proved: Time, plain: Time, (slower, faster): (Time, Ti
         (Time::Took(_), Time::MoreThan(_)) => format!("less than {ratio:.2}"),
         (Time::MoreThan(_), Time::MoreThan(_)) => "unknown".to_string(),
     };
-    print_cells(name, &proved.show(), &plain.show(), &ratio);
+    print_cells(name, &proved.show(), &reference.show(), &ratio);
 }
 
-fn print_cells(name: &str, proved: &str, plain: &str, ratio: &str) {
-    println!("{name:<48} {proved:>18} {plain:>18} {ratio:>18}");
+fn print_cells(name: &str, proved: &str, reference: &str, ratio: &str) {
+    println!("{name:<48} {proved:>18} {reference:>18} {ratio:>18}");
 }
 
 /// How many calls fill a batch.
@@ -102,17 +102,17 @@ fn measure<const N: usize>(mut calls: [&mut dyn FnMut(); N]) -> [Time; N] {
 fn bench_check(input: &Check) {
     let Check { name, shop, order } = input;
     assert_eq!(liropuva::check_order(shop, order), Ok(()));
-    assert_eq!(plain::check_order(shop, order), Ok(()));
+    assert_eq!(reference::check_order(shop, order), Ok(()));
     let mut proved = || {
         let answer = liropuva::check_order(black_box(shop), black_box(order));
         black_box(answer).expect("passed");
     };
-    let mut plain = || {
-        let answer = plain::check_order(black_box(shop), black_box(order));
+    let mut reference = || {
+        let answer = reference::check_order(black_box(shop), black_box(order));
         black_box(answer).expect("passed");
     };
-    let [proved, plain] = measure([&mut proved, &mut plain]);
-    print_line(name, proved, plain, (proved, plain));
+    let [proved, reference] = measure([&mut proved, &mut reference]);
+    print_line(name, proved, reference, (proved, reference));
 }
 
 fn bench_replay(input: &Replay) {
@@ -125,20 +125,20 @@ fn bench_replay(input: &Replay) {
     let mut room = vec![0; trace.len()];
     let mut other_room = room.clone();
     let proved = liropuva::replay(shop, order, trace, &mut room).expect(name);
-    let plain = plain::replay(shop, order, trace, &mut other_room).expect(name);
-    assert_eq!((proved.cost, &room), (plain.cost, &other_room));
+    let reference = reference::replay(shop, order, trace, &mut other_room).expect(name);
+    assert_eq!((proved.cost, &room), (reference.cost, &other_room));
     let mut proved = || {
         let room = black_box(&mut room[..]);
         let answer = liropuva::replay(black_box(shop), black_box(order), black_box(trace), room);
         let _ = black_box(answer);
     };
-    let mut plain = || {
+    let mut reference = || {
         let room = black_box(&mut other_room[..]);
-        let answer = plain::replay(black_box(shop), black_box(order), black_box(trace), room);
+        let answer = reference::replay(black_box(shop), black_box(order), black_box(trace), room);
         let _ = black_box(answer);
     };
-    let [proved, plain] = measure([&mut proved, &mut plain]);
-    print_line(name, proved, plain, (proved, plain));
+    let [proved, reference] = measure([&mut proved, &mut reference]);
+    print_line(name, proved, reference, (proved, reference));
 }
 
 /// A search that ended: its seconds, and number, place and room of its answer.
@@ -147,12 +147,12 @@ struct Ended {
     answer: (u32, usize, Vec<u16>),
 }
 
-/// The plain search once; `None` when it is stopped at the deadline.
-fn plain_search_once(input: &Search, depth: u32) -> Option<Ended> {
+/// The reference search once; `None` when it is stopped at the deadline.
+fn reference_search_once(input: &Search, depth: u32) -> Option<Ended> {
     let mut room = vec![0; liropuva::SEARCH_ROOM];
     let start = Instant::now();
     let budget = Budget::until(start + SEARCH_DEADLINE);
-    let found = plain::search_within(&input.shop, &input.order, depth, &mut room, budget);
+    let found = reference::search_within(&input.shop, &input.order, depth, &mut room, budget);
     let seconds = start.elapsed().as_secs_f64();
     let (number, place) = match found {
         Ok(steps) => (0, steps),
@@ -233,15 +233,15 @@ fn bench_search(input: &Search) {
     } = input;
     assert_eq!(liropuva::check_order(shop, order), Ok(()));
     let proved_ended = proved_search_once(input, *depth);
-    let plain_ended = plain_search_once(input, *depth);
-    if let (Some(proved), Some(plain)) = (&proved_ended, &plain_ended) {
-        assert_eq!(proved.answer, plain.answer);
+    let reference_ended = reference_search_once(input, *depth);
+    if let (Some(proved), Some(reference)) = (&proved_ended, &reference_ended) {
+        assert_eq!(proved.answer, reference.answer);
     }
     let time = |ended: &Option<Ended>| match ended {
         Some(ended) => Time::Took(ended.seconds),
         None => Time::MoreThan(SEARCH_DEADLINE.as_secs_f64()),
     };
-    let (mut proved, mut plain) = (time(&proved_ended), time(&plain_ended));
+    let (mut proved, mut reference) = (time(&proved_ended), time(&reference_ended));
     let mut room = [0; liropuva::SEARCH_ROOM];
     let mut other_room = room;
     let mut proved_call = || {
@@ -249,28 +249,28 @@ fn bench_search(input: &Search) {
         let found = liropuva::search(black_box(shop), black_box(order), *depth, room);
         let _ = black_box(found);
     };
-    let mut plain_call = || {
+    let mut reference_call = || {
         let room = black_box(&mut other_room[..]);
-        let found = plain::search(black_box(shop), black_box(order), *depth, room);
+        let found = reference::search(black_box(shop), black_box(order), *depth, room);
         let _ = black_box(found);
     };
     // Those that take seconds are not repeated.
     let quick = |time: Time| time.seconds() < 2.0;
-    match (quick(proved), quick(plain)) {
-        (true, true) => [proved, plain] = measure([&mut proved_call, &mut plain_call]),
+    match (quick(proved), quick(reference)) {
+        (true, true) => [proved, reference] = measure([&mut proved_call, &mut reference_call]),
         (true, false) => [proved] = measure([&mut proved_call]),
-        (false, true) => [plain] = measure([&mut plain_call]),
+        (false, true) => [reference] = measure([&mut reference_call]),
         (false, false) => {}
     }
-    print_line(name, proved, plain, (plain, proved));
-    if proved_ended.is_none() || plain_ended.is_none() {
+    print_line(name, proved, reference, (reference, proved));
+    if proved_ended.is_none() || reference_ended.is_none() {
         let depth = |ended: &Option<Ended>, once| match ended {
             Some(_) => String::new(),
             None => largest_depth(input, once),
         };
         let proved = depth(&proved_ended, proved_search_once);
-        let plain = depth(&plain_ended, plain_search_once);
-        print_cells("", &proved, &plain, "");
+        let reference = depth(&reference_ended, reference_search_once);
+        print_cells("", &proved, &reference, "");
     }
 }
 
@@ -323,14 +323,14 @@ fn main() -> ExitCode {
         );
         return ExitCode::FAILURE;
     }
-    print_cells("input", "proved", "plain", "ratio");
+    print_cells("input", "proved", "reference", "ratio");
     if inputs > searches.len() {
-        println!("checks and replays: proved / plain");
+        println!("checks and replays: proved / reference");
     }
     checks.iter().for_each(bench_check);
     replays.iter().for_each(bench_replay);
     if !searches.is_empty() {
-        println!("searches: plain / proved");
+        println!("searches: reference / proved");
     }
     searches.iter().for_each(bench_search);
     ExitCode::SUCCESS

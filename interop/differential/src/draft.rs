@@ -1,6 +1,6 @@
 //! Sheets before they are words.
 
-use plain::tag;
+use reference::tag;
 
 /// Tag and value.
 pub type Row = (u16, u16);
@@ -173,7 +173,7 @@ impl Order {
     }
 
     /// The same goals from another state.
-    pub fn from_state(&self, state: &plain::Atoms) -> Order {
+    pub fn from_state(&self, state: &reference::Atoms) -> Order {
         Order {
             start: state.iter().collect(),
             ..self.clone()

@@ -7,7 +7,7 @@
 use std::ffi::{c_int, c_ulong, c_void};
 use std::ptr;
 
-use evidence::inputs;
+use differential::inputs;
 
 const STACK_WORDS: usize = 1 << 20;
 const PATTERN: u64 = 0x5a3c_96e1_0f87_b42d;

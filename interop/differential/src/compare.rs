@@ -3,7 +3,7 @@
 use std::collections::BTreeMap;
 
 use liropuva::{Answer, ReplayAnswer};
-use plain::{Atoms, Budget, Refusal, Stopped};
+use reference::{Atoms, Budget, Refusal, Stopped};
 
 use crate::random::Random;
 
@@ -122,22 +122,22 @@ pub fn checks(tally: &mut Tally, shop: &[u16], order: &[u16], trace: &[u16]) {
     let pairs = [
         (
             liropuva::check_shop_answer(shop),
-            plain::check_shop(shop).map(|()| 0),
+            reference::check_shop(shop).map(|()| 0),
         ),
         (
             liropuva::check_order_answer(shop, order),
-            plain::check_order(shop, order).map(|()| 0),
+            reference::check_order(shop, order).map(|()| 0),
         ),
         (
             liropuva::check_trace_answer(shop, order, trace),
-            plain::check_trace(shop, order, trace).map(|()| 0),
+            reference::check_trace(shop, order, trace).map(|()| 0),
         ),
     ];
-    for (proved, plain) in pairs {
+    for (proved, reference) in pairs {
         assert_eq!(
             proved,
-            answer(plain),
-            "check: proved (left), plain (right)\nshop {shop:?}\norder {order:?}\ntrace {trace:?}"
+            answer(reference),
+            "check: proved (left), reference (right)\nshop {shop:?}\norder {order:?}\ntrace {trace:?}"
         );
         tally.checks.count(proved.number, 1);
     }
@@ -167,12 +167,12 @@ pub fn replay(
 ) -> Replayed {
     let before = Lent::new(random, room);
     let mut proved_lent = before.clone();
-    let mut plain_lent = before.clone();
+    let mut reference_lent = before.clone();
     let proved = liropuva::replay_answer(shop, order, trace, proved_lent.room());
-    let plain = plain::replay(shop, order, trace, plain_lent.room());
+    let reference = reference::replay(shop, order, trace, reference_lent.room());
 
     let input = || format!("shop {shop:?}\norder {order:?}\ntrace {trace:?}\nplan room {room}");
-    let (expected, state) = match plain {
+    let (expected, state) = match reference {
         Ok(a) => ([0, a.steps as u32, a.plan_count as u32, a.cost], a.state),
         Err(r) => ([u32::from(r.number), r.place as u32, 0, 0], Atoms::EMPTY),
     };
@@ -180,19 +180,19 @@ pub fn replay(
     assert_eq!(
         given,
         expected,
-        "replay: number, place, plan count, cost: proved (left), plain (right)\n{}",
+        "replay: number, place, plan count, cost: proved (left), reference (right)\n{}",
         input()
     );
     let proved_state: Atoms = proved.state.iter().collect();
     assert_eq!(
         proved_state,
         state,
-        "replay: state: proved (left), plain (right)\n{}",
+        "replay: state: proved (left), reference (right)\n{}",
         input()
     );
     assert!(
-        proved_lent == plain_lent,
-        "replay: room: proved {proved_lent:?}\nplain {plain_lent:?}\n{}",
+        proved_lent == reference_lent,
+        "replay: room: proved {proved_lent:?}\nreference {reference_lent:?}\n{}",
         input()
     );
     let written = proved.plan_count as usize;
@@ -202,7 +202,7 @@ pub fn replay(
         input()
     );
     tally.replays.count(proved.number, 1);
-    if proved.number == 0 && proved.place == u32::from(plain::MAX_STEPS) {
+    if proved.number == 0 && proved.place == u32::from(reference::MAX_STEPS) {
         tally.full_traces += 1;
     }
     Replayed {
@@ -213,7 +213,7 @@ pub fn replay(
 }
 
 /// Compares both sides on a search. Not asked of the proved side, and `None`,
-/// when the plain search does not end within `budget` steps tried.
+/// when the reference search does not end within `budget` steps tried.
 pub fn search(
     tally: &mut Tally,
     random: &mut Random,
@@ -223,10 +223,10 @@ pub fn search(
     budget: u64,
 ) -> Option<Answer> {
     let before = Lent::new(random, room);
-    let mut plain_lent = before.clone();
+    let mut reference_lent = before.clone();
     let budget = Budget::steps(budget);
-    let plain = plain::search_within(shop, order, depth, plain_lent.room(), budget);
-    let plain = match plain {
+    let reference = reference::search_within(shop, order, depth, reference_lent.room(), budget);
+    let reference = match reference {
         Ok(steps) => Ok(steps),
         Err(Stopped::Refused(refusal)) => Err(refusal),
         Err(Stopped::BudgetSpent) => return None,
@@ -237,13 +237,13 @@ pub fn search(
     let input = || format!("shop {shop:?}\norder {order:?}\ndepth {depth}\nroom {room}");
     assert_eq!(
         proved,
-        answer(plain),
-        "search: proved (left), plain (right)\n{}",
+        answer(reference),
+        "search: proved (left), reference (right)\n{}",
         input()
     );
     assert!(
-        proved_lent == plain_lent,
-        "search: room: proved {proved_lent:?}\nplain {plain_lent:?}\n{}",
+        proved_lent == reference_lent,
+        "search: room: proved {proved_lent:?}\nreference {reference_lent:?}\n{}",
         input()
     );
     let written = match proved.number {

@@ -2,18 +2,18 @@
 //! when there is a cut, there is never more than one, and plan, cost and state
 //! are those of front and back together.
 //!
-//! It is asked of the plain model on the join as a network, and of the proved
+//! It is asked of the reference model on the join as a network, and of the proved
 //! library wherever the join fits an order sheet.
 
 use std::sync::atomic::{AtomicU64, Ordering};
 
-use evidence::compare::{self, Replayed, Tally};
-use evidence::draft::{Order, Shop, Step, trace_words};
-use evidence::generate::{self, Size};
-use evidence::random::Random;
-use evidence::walk::{self, Habit};
-use evidence::{damage, runner};
-use plain::{Accepted, Atoms, MAX_GOALS, MAX_ROWS, MAX_STEPS, Network, Rules, Run, Trace};
+use differential::compare::{self, Replayed, Tally};
+use differential::draft::{Order, Shop, Step, trace_words};
+use differential::generate::{self, Size};
+use differential::random::Random;
+use differential::walk::{self, Habit};
+use differential::{damage, runner};
+use reference::{Accepted, Atoms, MAX_GOALS, MAX_ROWS, MAX_STEPS, Network, Rules, Run, Trace};
 
 const MISMATCH: &str = "accepted without a cut, or not with one";
 
@@ -31,7 +31,7 @@ struct Pair {
     /// The join as a sheet, if it fits one.
     join_words: Option<Vec<u16>>,
     second_draft: Order,
-    shop: plain::Shop,
+    shop: reference::Shop,
     first: Network,
     second: Network,
     join: Network,
@@ -59,7 +59,7 @@ impl Pair {
         let fits =
             join.goals.len() <= MAX_GOALS && join.sheet().rows.len() <= usize::from(MAX_ROWS);
         let shop_words = shop.words();
-        let shop = plain::Shop::read(&shop_words).expect("a well-formed shop");
+        let shop = reference::Shop::read(&shop_words).expect("a well-formed shop");
         let read = |order: &Order| Network::read(&shop, &order.words()).expect("well-formed");
         let (first_network, second_network) = (read(&first), read(&second));
         Pair {
@@ -82,15 +82,15 @@ impl Pair {
     }
 
     fn run_join(&self, trace: Trace<'_>) -> Option<Accepted> {
-        plain::run(Rules::CALLS, &self.shop, &self.join, self.join.start, trace).ok()
+        reference::run(Rules::CALLS, &self.shop, &self.join, self.join.start, trace).ok()
     }
 
     fn run_front(&self, trace: Trace<'_>, rules: Rules) -> Option<Accepted> {
-        plain::run(rules, &self.shop, &self.first, self.first.start, trace).ok()
+        reference::run(rules, &self.shop, &self.first, self.first.start, trace).ok()
     }
 
     fn run_back(&self, state: Atoms, trace: Trace<'_>) -> Option<Accepted> {
-        plain::run(Rules::CALLS, &self.shop, &self.second, state, trace).ok()
+        reference::run(Rules::CALLS, &self.shop, &self.second, state, trace).ok()
     }
 
     /// Front and back of every cut that will do, with these rules for the front.
@@ -167,8 +167,8 @@ fn some_steps(random: &mut Random, pair: &Pair) -> Vec<Step> {
     steps
 }
 
-/// Demand 3 in the plain model.
-fn check_plain(pair: &Pair, words: &[u16]) {
+/// Demand 3 in the reference model.
+fn check_reference(pair: &Pair, words: &[u16]) {
     let trace = Trace::check(words).expect("a well-formed trace");
     let joined = pair.run_join(trace);
     let cuts = pair.cuts(trace, pair.front_rules());
@@ -265,7 +265,7 @@ fn long_join_case(random: &mut Random, tally: &mut Tally) {
 }
 
 fn check(pair: &Pair, random: &mut Random, tally: &mut Tally, steps: &[Step]) {
-    check_plain(pair, &trace_words(steps));
+    check_reference(pair, &trace_words(steps));
     if let Some(join) = &pair.join_words {
         let mut asked = Asked {
             pair,
