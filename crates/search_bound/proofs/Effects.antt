@@ -9,30 +9,26 @@ use lib.Seq.{drop-cons}
 use Rattle.hgn.specs.Lists.{any}
 use Rattle.hgn.specs.Network.{Waiting, noGoal}
 use Rattle.hgn.specs.Tag as Tag
-use Rattle.hgn.specs.Meaning.{Action, Literal, literals, nodeOf, actionOf}
+use Rattle.hgn.specs.Meaning.{Literal, literals, nodeOf}
 use Rattle.hgn.specs.State.{relevant}
 use Rattle.hgn.specs.Run.{actionAt}
 use Rattle.hgn.specs.Shop.{domain}
-use Rattle.sheet_index.specs.declared.index.Span.{Span}
+use Rattle.sheet_index.specs.declared.index.Part.{Part}
 use Rattle.sheet_rows.proofs.Laws.{told}
-use Rattle.sheet_index.specs.Index.{spanRows}
+use Rattle.sheet_index.specs.Index.{spanRows, partRows}
+use Rattle.sheet_index.specs.Tables.{ActionIn}
 use Rattle.network.specs.Entries.{waitingOf}
 use Rattle.network.specs.declared.waiting.Entry.{Entry}
 use Rattle.network.specs.Goals.{countIn, entryIn, listIn}
 use Rattle.network.proofs.WaitingGoals.{list-length, list-at}
 
-module _ (shop order : List ℕ) (k : ℕ) (rows : Span) (is : actionAt (domain shop) k ≡ actionOf (spanRows shop order rows)) where
-  pub effects-are : literals Tag.makesTrue Tag.makesFalse (spanRows shop order rows) ≡ actionAt (domain shop) k .effects
-  unfolding actionOf
-  effects-are = ap (λ (a : Action). a .effects) (sym is)
-
-  -- What is told of a goal's rows is told of the goal.
-  pub wanted-at : (goal : Entry) {r v : Bool}
-      → r ≡ relevant (literals Tag.makesTrue Tag.makesFalse (spanRows shop order rows)) (nodeOf (spanRows shop order (goal .rows)) .formula) → r ≡ v
-      → relevant (actionAt (domain shop) k .effects) (waitingOf shop order goal .formula) ≡ v
-  unfolding waitingOf
-  wanted-at goal p q =
-      ap (λ (ls : List Literal). relevant ls (nodeOf (spanRows shop order (goal .rows)) .formula)) (sym effects-are) ∙ told p q
+-- What is told of a goal's rows is told of the goal.
+pub wanted-at : (shop order : List ℕ) (k : ℕ) (rows : Part) → ActionIn shop k rows → (goal : Entry) {r v : Bool}
+    → r ≡ relevant (literals Tag.makesTrue Tag.makesFalse (partRows shop rows)) (nodeOf (spanRows shop order (goal .rows)) .formula) → r ≡ v
+    → relevant (actionAt (domain shop) k .effects) (waitingOf shop order goal .formula) ≡ v
+unfolding waitingOf
+wanted-at shop order k rows a goal p q =
+    ap (λ (ls : List Literal). relevant ls (nodeOf (spanRows shop order (goal .rows)) .formula)) (sym (a .effects)) ∙ told p q
 
 -- A search through the waiting goals that has come to place `i`: it ends there, has found one, or goes on.
 module _ (shop order ws : List ℕ) (test : Waiting → Bool) (i : ℕ)

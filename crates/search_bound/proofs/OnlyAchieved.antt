@@ -1,28 +1,27 @@
 -- The table of only achievers, literal by literal and action by action. Assumes nothing.
 use Prim.Native.Nat.{ℕ, _+_, _*_, _<_, _≤_}
 use native.Mathlib.Omega.{arith}
-use mathlib.Core.Path.{_≡_, refl, sym, ap, ap₂, subst, _∙_}
+use mathlib.Core.Path.{_≡_, refl, sym, ap, subst, _∙_}
 use mathlib.Core.Logic.{_≢_, ⊎-elim}
 use mathlib.Core.Bool.{Bool, true, false, cond}
-use mathlib.Core.List.{List, [], _∷_, _++_, zipWith, List·Memᴰ, List·Memᴰ·cases-cons, List·Memᴰ·not-nil}
+use mathlib.Core.List.{List, [], _∷_, _++_, List·Memᴰ, List·Memᴰ·cases-cons, List·Memᴰ·not-nil}
 use lib.Dec.{eqb}
 use lib.ListN.{length, getD, set, length-set}
 use lib.Seq.{getD-set-same, getD-set-other, set-out}
 use borrow.Author.Tests.{ne-eqb, eqb-true, eqb-false}
 use Rattle.hgn.specs.Rows.{Row, row}
-use Rattle.hgn.specs.Meaning.{Literal, Domain, literals, actionOf}
+use Rattle.hgn.specs.Meaning.{Literal, Domain, literals}
 use Rattle.hgn.specs.State.{contains, mostAtoms}
 use Rattle.hgn.specs.Run.{actionAt}
 use Rattle.hgn.specs.Shop.{domain, actionCount, mostActions}
 use Rattle.hgn.proofs.Tests.{contains-iff}
 use Rattle.hgn.proofs.Checked.{shop-actions, shop-counts}
-use Rattle.sheet_index.specs.Index.{tagsOf, valuesOf, spanRows}
-use Rattle.sheet_index.specs.declared.index.Span.{Span}
-use Rattle.sheet_index.specs.Tables.{Indexed}
+use Rattle.sheet_index.specs.Index.{partRows}
+use Rattle.sheet_index.specs.declared.index.Part.{Part}
+use Rattle.sheet_index.specs.Tables.{Indexed, ActionIn}
 use Rattle.state.proofs.ByRow.{true-row, false-row, no-row, first-row}
 use Rattle.sheet_index.proofs.Tables.{shop-passes}
 use Rattle.search_bound.specs.Tables.{achieversWords, indexOf, OnlyAchievers, many, noted}
-use Rattle.search_bound.proofs.Effects.{effects-are}
 
 module _ {atom : ℕ} {sign : Bool} where
   pub index-true : sign ≡ true → atom < mostAtoms → (2 * atom + 1 ≡ indexOf atom sign) × (2 * atom + 1 < achieversWords)
@@ -183,14 +182,9 @@ module _ (d : Domain) where
 module _ {shop order tables : List ℕ} (ix : Indexed shop order tables) {n : ℕ} {table : List ℕ}
     (m : AchievedTo (domain shop) n table) where
   -- The next action, by its rows.
-  pub achievers-next : n < actionCount shop → (rows : Span) → actionAt (domain shop) (n + 1) ≡ actionOf (spanRows shop order rows) → {ts vs : List ℕ}
-      → ts ≡ tagsOf rows shop order → vs ≡ valuesOf rows shop order
-      → {r : List ℕ} → r ≡ noted (n + 1) (literals 5 6 (zipWith row ts vs)) table → AchievedTo (domain shop) (n + 1) r
-  unfolding spanRows
-  achievers-next h rows is a b e =
-      achieved-more (domain shop) m
-      (e ∙ ap₂ (λ (x y : List ℕ). noted (n + 1) (literals 5 6 (zipWith row x y)) table) a b
-      ∙ ap (λ (ls : List Literal). noted (n + 1) ls table) (effects-are shop order (n + 1) rows is))
+  pub achievers-next : {rows : Part} → ActionIn shop (n + 1) rows → {r : List ℕ} → r ≡ noted (n + 1) (literals 5 6 (partRows shop rows)) table
+      → AchievedTo (domain shop) (n + 1) r
+  achievers-next a e = achieved-more (domain shop) m (e ∙ ap (λ (ls : List Literal). noted (n + 1) ls table) (a .effects))
 
   pub achievers-all : actionCount shop ≤ n → OnlyAchievers (domain shop) table
   achievers-all h l s q j a b c =

@@ -9,23 +9,22 @@ use lib.Dec.{eqb}
 use lib.ListN.{getD}
 use borrow.Author.Tests.{eqb-true, eqb-false}
 use Rattle.hgn.specs.Lists.{any}
-use Rattle.hgn.specs.Meaning.{Literal, Node, noNode, literals, actionOf}
+use Rattle.hgn.specs.Meaning.{Literal, Node, noNode, literals}
 use Rattle.hgn.specs.State.{relevant}
-use Rattle.hgn.specs.Run.{methodAt, actionAt}
+use Rattle.hgn.specs.Run.{methodAt}
 use Rattle.hgn.specs.Shop.{domain, methodCount}
 use Rattle.hgn.specs.Replay.{rulesOf}
 use Rattle.hgn.proofs.Tests.{true-any, at-mem, at-of-lt, false-not-true}
 use Rattle.hgn.proofs.Checked.{shop-counts}
-use Rattle.sheet_index.specs.declared.index.Span.{Span}
+use Rattle.sheet_index.specs.declared.index.Part.{Part}
 use Rattle.sheet_rows.specs.declared.position.Sheet.the-variants as Of
-use Rattle.sheet_index.specs.Index.{spanRows}
-use Rattle.sheet_index.specs.Tables.{Bounds, Walk, Indexed, nodeAt, MethodAt}
+use Rattle.sheet_index.specs.Index.{partRows}
+use Rattle.sheet_index.specs.Tables.{Bounds, Walk, Indexed, ActionIn, nodeAt, MethodAt}
 use Rattle.sheet_index.proofs.NodeWalks.{ahead, at-end, walk-same}
 use Rattle.sheet_index.proofs.Tables.{shop-passes}
 use Rattle.search_theory.specs.Needed.{OnlyMethod, nodeIn}
 use Rattle.search_bound.specs.Tables.{boundRelevant}
 use Rattle.sheet_index.specs.declared.operators.MethodRows.{MethodRows}
-use Rattle.search_bound.proofs.Effects.{effects-are}
 
 any-map : {A B : Type 0} (test : B → Bool) (f : A → B) (xs : List A) → any (λ x. test (f x)) xs ≡ any test (map f xs)
 unfolding any
@@ -90,26 +89,26 @@ module _ {has : ℕ → Bool} {n found : ℕ} (f : FoundTo has n found) where
       go j h e false y = let x : j ≢ n = eqb-false j n y in f .only j (omega arith) e
 
 -- Method `j` has a node to which these effects are relevant.
-abbrev pub hasNode : List ℕ → List ℕ → Span → ℕ → Bool
-hasNode shop order rows j = any (λ n. relevant (literals 5 6 (spanRows shop order rows)) (n .formula)) (methodAt (domain shop) j .nodes)
+abbrev pub hasNode : List ℕ → Part → ℕ → Bool
+hasNode shop rows j = any (λ n. relevant (literals 5 6 (partRows shop rows)) (n .formula)) (methodAt (domain shop) j .nodes)
 
 -- What is told of a method's nodes along the walk is told of the method.
-pub method-told : {shop order table : List ℕ} {m : ℕ} {at : MethodRows} (a : MethodAt shop order table m at) (rows : Span) {r : Bool}
-    → r ≡ any (boundRelevant shop order rows) (a .bs) → r ≡ hasNode shop order rows m
+pub method-told : {shop order table : List ℕ} {m : ℕ} {at : MethodRows} (a : MethodAt shop order table m at) (rows : Part) {r : Bool}
+    → r ≡ any (boundRelevant shop order rows) (a .bs) → r ≡ hasNode shop rows m
 method-told {shop} {order} a rows p =
-    p ∙ any-map (λ (n : Node). relevant (literals 5 6 (spanRows shop order rows)) (n .formula)) (nodeAt shop order Of.Shop) (a .bs)
-    ∙ ap (any (λ (n : Node). relevant (literals 5 6 (spanRows shop order rows)) (n .formula))) (a .nodes)
+    p ∙ any-map (λ (n : Node). relevant (literals 5 6 (partRows shop rows)) (n .formula)) (nodeAt shop order Of.Shop) (a .bs)
+    ∙ ap (any (λ (n : Node). relevant (literals 5 6 (partRows shop rows)) (n .formula))) (a .nodes)
 
-module _ {shop order table : List ℕ} (ix : Indexed shop order table) (k : ℕ) (rows : Span) (is : actionAt (domain shop) k ≡ actionOf (spanRows shop order rows)) where
+module _ {shop order table : List ℕ} (ix : Indexed shop order table) (k : ℕ) (rows : Part) (there : ActionIn shop k rows) where
   -- All methods are asked.
-  pub method-alone : {n found : ℕ} → FoundTo (hasNode shop order rows) n found → n ≡ methodCount shop → 1 ≤ found
+  pub method-alone : {n found : ℕ} → FoundTo (hasNode shop rows) n found → n ≡ methodCount shop → 1 ≤ found
       → (found ≤ methodCount shop) × OnlyMethod (rulesOf shop) k (found - 1)
   method-alone f e p = (
     omega (arith, f .within),
     (λ j i a b c.
         let nodes = methodAt (domain shop) j .nodes in
         let z = f .only j (omega (arith, shop-counts shop (shop-passes ix) .1))
-        (true-any (λ (x : Node). relevant (literals 5 6 (spanRows shop order rows)) (x .formula)) nodes (at-mem (at-of-lt nodes i noNode b))
-        (ap (λ (ls : List Literal). relevant ls (nodeIn (domain shop) j i .formula)) (effects-are shop order k rows is) ∙ c)) in
+        (true-any (λ (x : Node). relevant (literals 5 6 (partRows shop rows)) (x .formula)) nodes (at-mem (at-of-lt nodes i noNode b))
+        (ap (λ (ls : List Literal). relevant ls (nodeIn (domain shop) j i .formula)) (there .effects) ∙ c)) in
         omega arith),
   )

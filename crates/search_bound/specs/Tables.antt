@@ -8,9 +8,9 @@ use lib.ListN.{length, getD, set}
 use Rattle.hgn.specs.Tag as Tag
 use Rattle.hgn.specs.Meaning.{Literal, Domain, literals, nodeOf}
 use Rattle.hgn.specs.State.{mostAtoms, relevant}
-use Rattle.sheet_index.specs.declared.index.Span.{Span}
+use Rattle.sheet_index.specs.declared.index.Part.{Part}
 use Rattle.sheet_rows.specs.declared.position.Sheet.the-variants as Of
-use Rattle.sheet_index.specs.Index.{spanRows, spanOf}
+use Rattle.sheet_index.specs.Index.{spanRows, spanOf, partRows}
 use Rattle.hgn.specs.Shop.{domain, actionCount, methodCount}
 use Rattle.sheet_index.specs.Tables.{Bounds, Indexed}
 use Rattle.search_theory.specs.Needed.{OnlyMaker}
@@ -51,7 +51,7 @@ noted k (l ∷ ls) table =
     noted k ls (set table (indexOf (l .atom) (l .sign)) (cond (eqb (getD table (indexOf (l .atom) (l .sign)) 0) 0) k many))
 
 -- The effects among these rows are relevant to the node with those.
-abbrev pub boundRelevant : List ℕ → List ℕ → Span → Bounds → Bool
+abbrev pub boundRelevant : List ℕ → List ℕ → Part → Bounds → Bool
 boundRelevant shop order effects b =
-    relevant (literals Tag.makesTrue Tag.makesFalse (spanRows shop order effects))
+    relevant (literals Tag.makesTrue Tag.makesFalse (partRows shop effects))
     (nodeOf (spanRows shop order (spanOf Of.Shop (b .from) (b .to))) .formula)

@@ -1,14 +1,13 @@
 // Which action alone achieves a literal: a table of words, filled once for a shop sheet and then lent.
 use sheet_check::check::Shop;
 use sheet_check::sizes::ShopSizes;
-use sheet_index::index;
+use sheet_index::index::Part;
 use sheet_index::operators;
 use sheet_rows::position::Atom;
 use sheet_rows::tag;
-use state::part;
 ghost use mathlib.Core.Path.{_≡_};
 ghost use mathlib.Core.Bool.{cond};
-ghost use mathlib.Core.List.{[], _∷_, zipWith};
+ghost use mathlib.Core.List.{[], _∷_};
 ghost use Prim.Native.Nat.{_<_};
 ghost use lib.Dec.{eqb};
 ghost use lib.ListN.{length, getD, set};
@@ -17,6 +16,7 @@ ghost use Rattle.hgn.specs.Rows.{row};
 ghost use Rattle.hgn.specs.Meaning.{literals};
 ghost use Rattle.hgn.specs.State.{mostAtoms};
 ghost use Rattle.hgn.specs.Shop.{domain};
+ghost use Rattle.sheet_index.specs.Index.{partRows, Lies};
 ghost use Rattle.sheet_index.specs.Tables.{Indexed};
 ghost use Rattle.search_bound.specs.Tables.{achieversWords, indexOf, OnlyAchievers, many, noted};
 
@@ -83,15 +83,17 @@ fn note_row(table: &mut [u16; WORDS], tag: u16, value: u16, action: u16)
     }
 }
 
-// The action is noted at each literal that its rows make.
-fn note_effects(table: &mut [u16; WORDS], tags: &[u16], values: &[u16], action: u16)
-    requires { ⌜ length (now table) ≡ achieversWords ⌝ }
-    ensures { λ _. ⌜ now (table .exit) ≡ noted action (literals Tag.makesTrue Tag.makesFalse (zipWith row (now (tags .entry)) (now (values .entry)))) (now (table .entry)) ⌝ }
+// The action is noted at each literal that a part's rows make.
+fn note_effects(table: &mut [u16; WORDS], words: &[u16], part: Part, action: u16)
+    requires { ⌜ (length (now table) ≡ achieversWords) × Lies (now words) part ⌝ }
+    ensures { λ _. ⌜ now (table .exit) ≡ noted action (literals Tag.makesTrue Tag.makesFalse (partRows (now (words .entry)) part)) (now (table .entry)) ⌝ }
 {
-    let n = part::rows(tags, values);
+    let tags = part.tags;
+    let values = part.values;
+    let n = part.rows;
     let mut i = 0;
     while i < n {
-        note_row(table, tags[i], values[i], action);
+        note_row(table, words[tags + i], words[values + i], action);
         i += 1;
     }
 }
@@ -107,9 +109,7 @@ pub fn fill<'a>(shop: &'a [u16], order: &'a [u16], tables: &[u16], table: &mut [
     let mut action: u16 = 0;
     while action < count {
         action += 1;
-        let rows = operators::action_rows(tables, action);
-        let tags = index::tags_of(rows, shop, order);
-        let values = index::values_of(rows, shop, order);
-        note_effects(table, tags, values, action);
+        let rows = operators::action_part(shop, tables, action);
+        note_effects(table, shop, rows, action);
     }
 }

@@ -4,6 +4,7 @@ use network::goals::Goals;
 use network::waiting::Place;
 use sheet_check::rows::Row;
 use sheet_check::sizes::ShopSizes;
+use sheet_index::index::Part;
 use sheet_index::index::Span;
 use sheet_index::operators;
 use sheet_index::operators::MethodRows;
@@ -19,7 +20,7 @@ ghost use Rattle.hgn.specs.State.{relevant};
 ghost use Rattle.hgn.specs.Run.{actionAt, methodAt};
 ghost use Rattle.hgn.specs.Shop.{domain, methodCount};
 ghost use Rattle.hgn.specs.Replay.{rulesOf};
-ghost use Rattle.sheet_index.specs.Index.{spanRows};
+ghost use Rattle.sheet_index.specs.Index.{partRows, Lies};
 ghost use Rattle.sheet_index.specs.Tables.{Bounds, Walk, Indexed};
 ghost use Rattle.network.specs.Goals.{listIn, Within};
 ghost use Rattle.search_theory.specs.Needed.{OnlyMethod};
@@ -31,9 +32,9 @@ fn has_node_for<'a>(
     order: &'a [u16],
     tables: &[u16],
     method: MethodRows,
-    effects: Span,
+    effects: Part,
 ) -> bool
-    requires { ⌜ ((bs : List Bounds) × Walk (now tables) (method .end .0) (method .first .0) bs) ⌝ }
+    requires { ⌜ ((bs : List Bounds) × Walk (now tables) (method .end .0) (method .first .0) bs) × Lies (now shop) effects ⌝ }
     ensures { λ r. ⌜ ((bs : List Bounds) → Walk (now (tables .entry)) (method .end .0) (method .first .0) bs
         → r ≡ any (boundRelevant (now (shop .entry)) (now (order .entry)) effects) bs) ⌝ }
 {
@@ -65,11 +66,11 @@ fn method_has<'a>(
     shop: &'a [u16],
     order: &'a [u16],
     tables: &[u16],
-    effects: Span,
+    effects: Part,
     method: u16,
 ) -> bool
-    requires { ⌜ Indexed (now shop) (now order) (now tables) × (method < methodCount (now shop)) ⌝ }
-    ensures { λ r. ⌜ r ≡ any (λ n. relevant (literals Tag.makesTrue Tag.makesFalse (spanRows (now (shop .entry)) (now (order .entry)) effects))
+    requires { ⌜ Indexed (now shop) (now order) (now tables) × (method < methodCount (now shop)) × Lies (now shop) effects ⌝ }
+    ensures { λ r. ⌜ r ≡ any (λ n. relevant (literals Tag.makesTrue Tag.makesFalse (partRows (now (shop .entry)) effects))
         (n .formula)) (methodAt (domain (now (shop .entry))) method .nodes) ⌝ }
 {
     let rows = operators::method_rows(shop, tables, method);
@@ -81,7 +82,7 @@ pub fn only_method<'a>(shop: &'a [u16], order: &'a [u16], tables: &[u16], action
     requires { ⌜ ActionOf (now shop) (now order) (now tables) action ⌝ }
     ensures { λ r. ⌜ (1 ≤ r → (r ≤ methodCount (now (shop .entry))) × OnlyMethod (rulesOf (now (shop .entry))) action (r - 1)) ⌝ }
 {
-    let effects = operators::action_rows(tables, action);
+    let effects = operators::action_part(shop, tables, action);
     let sizes = ShopSizes::of(shop);
     let count = sizes.methods;
     let mut found: u16 = 0;
@@ -111,7 +112,7 @@ pub fn wanted_by<'a>(
     ensures { λ r. ⌜ r ≡ any (λ g. relevant (actionAt (domain (now (shop .entry))) action .effects) (g .formula))
         (listIn (now (shop .entry)) (now (order .entry)) (now (goals .entry))) ⌝ }
 {
-    let rows = operators::action_rows(tables, action);
+    let rows = operators::action_part(shop, tables, action);
     let count = goals::count_of(goals);
     let mut i: u16 = 0;
     while i < count {

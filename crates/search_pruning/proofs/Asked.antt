@@ -1,24 +1,24 @@
 -- The tests of a move, by its cases: an action and a method by their rows. Assumes nothing.
 use Prim.Native.Nat.{ℕ, _+_, _≤_}
-use mathlib.Core.Path.{_≡_, refl, sym, ap, ap₂, _∙_}
-use mathlib.Core.Bool.{Bool, true, false, _&&_}
-use mathlib.Core.List.{List, zipWith}
+use mathlib.Core.Path.{_≡_, refl, ap, _∙_}
+use mathlib.Core.Bool.{Bool, false, _&&_}
+use mathlib.Core.List.{List}
 use lib.Dec.{ltb}
 use lib.ListN.{take}
 use Rattle.hgn.specs.Lists.{any}
-use Rattle.hgn.specs.Rows.{row}
-use Rattle.hgn.specs.Meaning.{Action, Literal, literals, nodeOf, actionOf}
+use Rattle.hgn.specs.Meaning.{Literal, literals, nodeOf}
 use Rattle.hgn.specs.State.{State, γ, allHold, formulaHolds, relevant}
 use Rattle.hgn.specs.Network as Network
 use Rattle.hgn.specs.Network.{free}
 use Rattle.hgn.specs.Run.{actionAt, methodAt}
 use Rattle.hgn.specs.Shop.{domain, actionCount, methodCount}
 use Rattle.hgn.specs.Replay.{rulesOf}
-use Rattle.sheet_index.specs.Index.{tagsOf, valuesOf, spanRows}
+use Rattle.sheet_index.specs.Index.{spanRows, partRows}
+use Rattle.sheet_index.specs.declared.index.Part.{Part}
 use Rattle.sheet_index.specs.declared.index.Span.{Span}
 use Rattle.network.specs.Entries.{waitingOf}
 use Rattle.step.specs.Moves.{Known, knownOf}
-use Rattle.sheet_index.specs.Tables.{Indexed}
+use Rattle.sheet_index.specs.Tables.{Indexed, ActionIn}
 use Rattle.step.specs.declared.moves.Move.{Move}
 use Rattle.step.specs.declared.moves.Move.the-variants.{Release, Act, Use}
 use Rattle.network.specs.declared.waiting.Entry.{Entry}
@@ -68,38 +68,23 @@ module _ (shop : List ℕ) {m : Move} {k : ℕ} (e : m ≡ Use k) where
 module _ {shop order table : List ℕ} (ix : Indexed shop order table) {m : Move} {k : ℕ}
     (h : Known (actionCount shop) (methodCount shop) m) (e : m ≡ Act k) where
   -- What finding its rows asks.
-  pub action-inside : (shop order : List ℕ) × Indexed shop order table × (1 ≤ k) × (k ≤ actionCount shop)
-  action-inside = let a = known-action ix h e in (shop, order, ix, a .0, a .1)
+  pub action-inside : (order : List ℕ) × Indexed shop order table × (1 ≤ k) × (k ≤ actionCount shop)
+  action-inside = let a = known-action ix h e in (order, ix, a .0, a .1)
 
-  module _ (rows : Span)
-      (found : (shop order : List ℕ) → Indexed shop order table → k ≤ actionCount shop → actionAt (domain shop) k ≡ actionOf (spanRows shop order rows)) where
-    action-is : actionAt (domain shop) k ≡ actionOf (spanRows shop order rows)
-    action-is = found shop order ix (known-action ix h e .1)
+module _ {shop : List ℕ} {m : Move} {k : ℕ} (e : m ≡ Act k) {rows : Part} (there : ActionIn shop k rows) where
+  pub ready-action : {r : Bool} (s : State) (g : Network.Waiting) → r ≡ allHold s (literals 3 4 (partRows shop rows)) → r ≡ ready (domain shop) s g (knownOf m)
+  unfolding ready
+  ready-action s g p = rw e (p ∙ ap (allHold s) (there .needs))
 
-    needs-are : literals 3 4 (spanRows shop order rows) ≡ actionAt (domain shop) k .needs
-    unfolding actionOf
-    needs-are = ap (λ (a : Action). a .needs) (sym action-is)
+  pub idle-action : {r : Bool} (s : State) → r ≡ allHold s (literals 5 6 (partRows shop rows)) → r ≡ idle (domain shop) s (knownOf m)
+  unfolding idle
+  idle-action s p = rw e (p ∙ ap (allHold s) (there .effects))
 
-    effects-are : literals 5 6 (spanRows shop order rows) ≡ actionAt (domain shop) k .effects
-    unfolding actionOf
-    effects-are = ap (λ (a : Action). a .effects) (sym action-is)
-
-    pub ready-action : {r : Bool} (s : State) (g : Network.Waiting) → r ≡ allHold s (literals 3 4 (spanRows shop order rows))
-        → r ≡ ready (domain shop) s g (knownOf m)
-    unfolding ready
-    ready-action s g p = rw e (p ∙ ap (allHold s) needs-are)
-
-    pub idle-action : {r : Bool} (s : State) {ts vs : List ℕ} → ts ≡ tagsOf rows shop order → vs ≡ valuesOf rows shop order
-        → r ≡ allHold s (literals 5 6 (zipWith row ts vs)) → r ≡ idle (domain shop) s (knownOf m)
-    unfolding idle spanRows
-    idle-action s a b p =
-        rw e (p ∙ ap₂ (λ (x y : List ℕ). allHold s (literals 5 6 (zipWith row x y))) a b ∙ ap (allHold s) effects-are)
-
-    pub lower-action : {r : Bool} (w : List Network.Waiting) (p : ℕ)
-        → r ≡ any (λ g. relevant (literals 5 6 (spanRows shop order rows)) (g .formula) && free w g) (take p w)
-        → r ≡ lowerToo (rulesOf shop) w p (knownOf m)
-    unfolding lowerToo
-    lower-action w p q = rw e (q ∙ ap (λ (l : List Literal). any (λ g. relevant l (g .formula) && free w g) (take p w)) effects-are)
+  pub lower-action : {r : Bool} (w : List Network.Waiting) (p : ℕ)
+      → r ≡ any (λ g. relevant (literals 5 6 (partRows shop rows)) (g .formula) && free w g) (take p w)
+      → r ≡ lowerToo (rulesOf shop) w p (knownOf m)
+  unfolding lowerToo
+  lower-action w p q = rw e (q ∙ ap (λ (l : List Literal). any (λ g. relevant l (g .formula) && free w g) (take p w)) (there .effects))
 
 -- An action by its number.
 pub after-action : (shop : List ℕ) {m : Move} {k : ℕ} → m ≡ Act k → {r : State} (s : State) → r ≡ γ s (actionAt (domain shop) k .effects)

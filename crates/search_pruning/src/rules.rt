@@ -4,8 +4,7 @@ use network::goals::Goals;
 use network::waiting::Entry;
 use network::waiting::Place;
 use sheet_check::check::Shop;
-use sheet_index::index;
-use sheet_index::index::Span;
+use sheet_index::index::Part;
 use sheet_index::operators;
 use sheet_rows::tag;
 use state::literals;
@@ -25,7 +24,7 @@ ghost use Rattle.hgn.specs.Network.{free as freeIn};
 ghost use Rattle.hgn.specs.Shop.{domain, actionCount, methodCount};
 ghost use Rattle.hgn.specs.Replay.{rulesOf};
 ghost use Rattle.network.specs.Entries.{waitingOf};
-ghost use Rattle.sheet_index.specs.Index.{spanRows};
+ghost use Rattle.sheet_index.specs.Index.{partRows, Lies};
 ghost use Rattle.sheet_index.specs.Tables.{Indexed};
 ghost use Rattle.step.specs.Moves.{Known, knownOf};
 ghost use Rattle.step.specs.Taking.{problemWith, Kept};
@@ -52,13 +51,13 @@ pub fn ready<'a>(
             parts::goal_holds(atoms, shop, order, rows)
         }
         Move::Act(action) => {
-            let rows = operators::action_rows(tables, action);
-            parts::needs_hold(atoms, shop, order, rows)
+            let rows = operators::action_part(shop, tables, action);
+            literals::all_hold(atoms, shop, rows, tag::NEEDS_TRUE, tag::NEEDS_FALSE)
         }
         Move::Use(method) => {
             let rows = operators::method_rows(shop, tables, method);
-            let head = Span::of_shop(rows.from, rows.first);
-            parts::needs_hold(atoms, shop, order, head)
+            let head = Part::of_shop(shop, rows.from, rows.first);
+            literals::all_hold(atoms, shop, head, tag::NEEDS_TRUE, tag::NEEDS_FALSE)
         }
     }
 }
@@ -89,10 +88,8 @@ pub fn idle<'a>(
     match mv {
         Move::Release => false,
         Move::Act(action) => {
-            let rows = operators::action_rows(tables, action);
-            let tags = index::tags_of(rows, shop, order);
-            let values = index::values_of(rows, shop, order);
-            literals::all_hold(atoms, tags, values, tag::MAKES_TRUE, tag::MAKES_FALSE)
+            let rows = operators::action_part(shop, tables, action);
+            literals::all_hold(atoms, shop, rows, tag::MAKES_TRUE, tag::MAKES_FALSE)
         }
         Move::Use(method) => false,
     }
@@ -103,12 +100,12 @@ fn helps_lower<'a>(
     shop: &'a [u16],
     order: &'a [u16],
     goals: &[u16; Goals::WORDS],
-    rows: Span,
+    rows: Part,
     place: Place,
 ) -> bool
-    requires { ⌜ Kept (now shop) (now order) (now goals) × (place .0 ≤ countIn (now goals)) ⌝ }
+    requires { ⌜ Kept (now shop) (now order) (now goals) × (place .0 ≤ countIn (now goals)) × Lies (now shop) rows ⌝ }
     ensures { λ r. ⌜ r ≡ any
-        (λ g. relevant (literalsOf Tag.makesTrue Tag.makesFalse (spanRows (now (shop .entry)) (now (order .entry)) rows)) (g .formula)
+        (λ g. relevant (literalsOf Tag.makesTrue Tag.makesFalse (partRows (now (shop .entry)) rows)) (g .formula)
         && freeIn (listIn (now (shop .entry)) (now (order .entry)) (now (goals .entry))) g)
         (take (place .0) (listIn (now (shop .entry)) (now (order .entry)) (now (goals .entry)))) ⌝ }
 {
@@ -144,7 +141,7 @@ pub fn lower_too<'a>(
     match mv {
         Move::Release => false,
         Move::Act(action) => {
-            let rows = operators::action_rows(tables, action);
+            let rows = operators::action_part(shop, tables, action);
             helps_lower(shop, order, goals, rows, choice.place)
         }
         Move::Use(method) => false,

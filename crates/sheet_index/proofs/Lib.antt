@@ -5,4 +5,5 @@ pub mod Indexed
 pub mod NodeWalks
 pub mod NodeParts
 pub mod Tables
+pub mod ShopParts
 pub mod OperatorRows

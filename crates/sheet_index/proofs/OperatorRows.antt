@@ -2,6 +2,7 @@
 use Prim.Native.Nat.{ℕ, zero, suc, _+_, _-_, _<_, _≤_}
 use native.Mathlib.Omega.{arith}
 use native.Mathlib.Nat.{not-suc-le-zero, le-of-suc-le-suc}
+use native.Mathlib.Numerals.{add-one}
 use mathlib.Core.Path.{_≡_, refl, sym, ap, ap₂, _∙_, subst}
 use mathlib.Core.Bool.{true, false}
 use mathlib.Core.List.{List, [], _∷_, _++_, map, map-append, map-map, List·Memᴰ, List·Memᴰ·head, List·Memᴰ·tail}
@@ -12,16 +13,19 @@ use Rattle.hgn.specs.Lists.{keep, upTo, parts}
 use Rattle.hgn.specs.Rows.{Row, row, has, mostRows}
 use Rattle.hgn.specs.Tag as Tag
 use Rattle.hgn.specs.Meaning.{Action, Method, opens, headed, literals, firstValue, nodeOf, nodesOf, actionOf, methodOf, networkOf}
-use Rattle.hgn.specs.Run.{noMethod, actionAt, methodAt}
-use Rattle.hgn.specs.Shop.{sizeWords, rowCount, actionCount, methodCount, shopRows, domain}
+use Rattle.hgn.specs.Run.{noAction, noMethod, actionAt, methodAt}
+use Rattle.hgn.specs.Written.{ConjunctRules}
+use Rattle.hgn.specs.Shop.{sizeWords, atomCount, rowCount, actionCount, methodCount, shopRows, domain}
 use Rattle.sheet_check.proofs.Lookup.{rows-at}
 use Rattle.hgn.proofs.Checked.{length-lastAfterAll, shop-counts, kept, method-nodes}
 use Rattle.hgn.proofs.Methods.{needs-first, goal-of-last}
+use Rattle.hgn.proofs.WrittenSheets.{shop-rules}
 use Rattle.sheet_rows.specs.declared.position.Sheet.the-variants as Of
-use Rattle.sheet_index.specs.Index.{starts, ends, startsIn, span, spanOf, spanRows}
-use Rattle.sheet_index.proofs.Spans.{upto-upto, span-upto, bounds, block-first, block-ends, block-until, block-span, part-span, part-end, block-nodes}
+use Rattle.sheet_index.specs.Index.{starts, ends, span, spanOf, spanRows, partRows}
+use Rattle.sheet_index.proofs.Spans.{upto-upto, span-upto, opens-no, bounds, block-first, block-ends, block-until, block-span, part-span, part-end, block-nodes}
 use Rattle.sheet_index.proofs.Indexed.{actions-length, methods-length, shop-length, blocks-in-order, blocks-count, action-span, method-span}
-use Rattle.sheet_index.specs.Tables.{Indexed, Bounds, nodeAt, MethodAt}
+use Rattle.sheet_index.specs.Tables.{Indexed, Inside, HasRows, ActionIn, Bounds, nodeAt, MethodAt}
+use Rattle.sheet_index.specs.declared.index.Part.{Part}
 use Rattle.sheet_index.specs.declared.operators.MethodRows.{MethodRows}
 use Rattle.sheet_index.proofs.NodeParts.{walk-nodes}
 use Rattle.sheet_index.proofs.Tables.{shop-passes, ends-fit, end-at, start-at, rows-of, indexable}
@@ -41,6 +45,11 @@ first-of-span : (rows : List Row) (a e : ℕ) → a < e → e ≤ length rows �
 unfolding span firstValue
 first-of-span rows a e h l =
     ap₂ {C = ℕ} (λ n xs. firstValue (take n xs)) (let d : e - a ≡ suc (e - suc a) = omega arith in d) (drop-cons rows a (row 0 0) (omega arith))
+
+-- The first row of an action or a method has no literal.
+behind-head : (t f : ℕ) → Tag.method < t → Tag.method < f → (r : Row) (rs : List Row) → opens r ≡ true → literals t f (r ∷ rs) ≡ literals t f rs
+unfolding literals
+behind-head t f a b r rs o = rw (opens-no t a r o, opens-no f b r o)
 
 -- The rows of a node of the shop sheet.
 abbrev pub boundRows : List ℕ → List ℕ → Bounds → List Row
@@ -86,16 +95,45 @@ module _ {shop order table : List ℕ} (ix : Indexed shop order table) where
     pub action-in-table : mostRows + k < length table
     action-in-table = omega (arith, indexable ix .room)
 
-    pub action-read : (at : ℕ) → at ≡ mostRows + (k - 1)
-        → actionAt (domain shop) k ≡ actionOf (spanRows shop order (spanOf Of.Shop (getD table at 0) (getD table (mostRows + k) 0)))
-    action-read at e =
-        let w = block-ends rows (k - 1) block in
-        action-span shop (shop-passes ix) (k - 1) (omega arith)
-        ∙ ap actionOf (sym (rows-of ix _ _ (omega arith) (w .1)))
-        ∙ rw (← start-is at e, ← end-is) refl
-
     pub start-below : (at : ℕ) → at ≡ mostRows + (k - 1) → getD table at 0 < rowCount shop
     start-below at e = omega (arith, start-is at e, block-first rows (k - 1) block .0, shop-length shop (shop-passes ix))
+
+    -- Behind its first row stand its needs and its effects.
+    pub action-inside : (at : ℕ) → at ≡ mostRows + (k - 1) → Inside shop (getD table at 0 + 1) (getD table (mostRows + k) 0)
+    action-inside at e =
+        let w = block-ends rows (k - 1) block in
+        record {
+          in-order = omega (arith, start-is at e, end-is, w .0);
+          below = omega (arith, end-is, w .1, shop-length shop (shop-passes ix));
+          fits = indexable ix .fits;
+        }
+
+    pub action-there : (at : ℕ) → at ≡ mostRows + (k - 1) → {p : Part} → HasRows shop (getD table at 0 + 1) (getD table (mostRows + k) 0) p → ActionIn shop k p
+    unfolding actionOf
+    action-there at e {p} r =
+        let w = block-ends rows (k - 1) block in
+        let f = block-first rows (k - 1) block in
+        let i = action-inside at e in
+        let behind : partRows shop p ≡ span rows (suc (getD (bounds rows) (k - 1) 0)) (getD (bounds rows) (suc (k - 1)) 0) =
+        r .rows-are order ∙ rows-of ix _ _ (i .in-order) (omega (arith, i .below, shop-length shop (shop-passes ix))) ∙ rw (start-is at e, end-is, add-one) refl in
+        let is = action-span shop (shop-passes ix) (k - 1) (omega arith) ∙ ap actionOf (span-cons rows _ _ (row 0 0) (f .0) (w .0)) in
+        record {
+          lies = r .lies;
+          needs =
+              ap (literals Tag.needsTrue Tag.needsFalse) behind
+              ∙ sym (behind-head Tag.needsTrue Tag.needsFalse (omega arith) (omega arith) _ _ (f .1))
+              ∙ sym (ap (λ (a : Action). a .needs) is);
+          effects =
+              ap (literals Tag.makesTrue Tag.makesFalse) behind
+              ∙ sym (behind-head Tag.makesTrue Tag.makesFalse (omega arith) (omega arith) _ _ (f .1))
+              ∙ sym (ap (λ (a : Action). a .effects) is);
+        }
+
+    -- The atoms of its effects rise, so none stands twice.
+    pub action-rises : ConjunctRules (atomCount shop) (actionAt (domain shop) k .effects)
+    action-rises =
+        shop-rules shop (shop-passes ix) .actions (actionAt (domain shop) k)
+        (getD-mem (domain shop .actions) (k - 1) noAction (omega (arith, shop-counts shop (shop-passes ix) .0))) .effects
 
     -- Its cost is the value of the row at which it starts.
     pub cost-read : (at : ℕ) → at ≡ mostRows + (k - 1) → getD shop (sizeWords + rowCount shop + getD table at 0) 0 ≡ actionAt (domain shop) k .cost

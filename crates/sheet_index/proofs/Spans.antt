@@ -7,7 +7,7 @@ use mathlib.Core.Bool.{Bool, true, false, cond, _||_}
 use mathlib.Core.List.{List, [], _∷_, _++_, zipWith}
 use lib.ListN.{length, getD, take, drop, length-take, length-drop}
 use lib.Seq.{drop-cons, drop-drop, getD-take, getD-drop, ext-getD}
-use borrow.Author.Tests.{le-leb, lt-leb, eqb-true}
+use borrow.Author.Tests.{le-leb, lt-leb, eqb-true, ne-eqb}
 use Rattle.hgn.specs.Lists.{upTo, parts}
 use Rattle.hgn.specs.Rows.{Row, row, rowsOf, has}
 use Rattle.hgn.specs.Tag as Tag
@@ -255,10 +255,11 @@ pub first-node : (rows : List Row) (n e : ℕ) → n < length rows → Until row
     (parts (has Tag.node) (span rows n e) ≡ parts (has Tag.node) (span rows next e)) × NodesFrom rows next e
 first-node rows n e h u o = (nodes-skip rows n e h u o, nodes-next rows n e h u)
 
-opens-no-node : (r : Row) → opens r ≡ true → has Tag.node r ≡ false
-opens-no-node r o =
-    by-test (has Tag.action r) (λ e. rw (eqb-true (r .tag) Tag.action e))
-    (λ e. rw (eqb-true (r .tag) Tag.method (rw e at o)))
+-- A row that begins an action or a method has no other tag.
+pub opens-no : (t : ℕ) → Tag.method < t → (r : Row) → opens r ≡ true → has t r ≡ false
+opens-no t h r o =
+    by-test (has Tag.action r) (λ e. ne-eqb (r .tag) t (λ q. omega (arith, eqb-true (r .tag) Tag.action e)))
+    (λ e. ne-eqb (r .tag) t (λ q. omega (arith, eqb-true (r .tag) Tag.method (rw e at o))))
 
 -- In an action or a method that is its first row; an action has no nodes.
 pub block-nodes : (rows : List Row) (b : ℕ) → b < length (starts 0 rows) →
@@ -268,7 +269,7 @@ pub block-nodes : (rows : List Row) (b : ℕ) → b < length (starts 0 rows) →
     (parts (has Tag.node) (span rows from to) ≡ parts (has Tag.node) (span rows next to)) × NodesFrom rows next to
 block-nodes rows b h =
     let f = block-first rows b h in
-    first-node rows _ _ (f .0) (block-until rows b h) (opens-no-node (getD rows (getD (bounds rows) b 0) (row 0 0)) (f .1))
+    first-node rows _ _ (f .0) (block-until rows b h) (opens-no Tag.node (omega arith) (getD rows (getD (bounds rows) b 0) (row 0 0)) (f .1))
 
 -- The numbers as `fill` leaves them, with other words behind.
 pub read-start : (rows : List Row) (n : ℕ) (tail : List ℕ) (b : ℕ) → n ≡ length rows → b ≤ length (starts 0 rows)
@@ -327,8 +328,8 @@ module _ (words : List ℕ) (l : Layout) (from to : ℕ) (f : from ≤ to) (t : 
     part-at : (j : ℕ) → j < k → getD (part column) j 0 ≡ getD words (column + (from + j)) 0
     part-at j g = getD-part words (column + from) k (omega arith) j g ∙ ap (λ i. getD words i 0) (add-assoc column from j)
 
-  pub columns-span : zipWith row (columnPart words l (l .sizes) from to) (columnPart words l (l .sizes + l .rows) from to) ≡ span rs from to
-  columns-span =
+  pub words-span : zipWith row (part (l .sizes)) (part (l .sizes + l .rows)) ≡ span rs from to
+  words-span =
       let a : l .sizes + l .rows ≤ length words = omega arith in
       let b : l .sizes + l .rows + l .rows ≤ length words = omega arith in
       let la = part-length (l .sizes) a in
@@ -336,8 +337,7 @@ module _ (words : List ℕ) (l : Layout) (from to : ℕ) (f : from ≤ to) (t : 
       let lz = length-zipWith row k (part (l .sizes)) (part (l .sizes + l .rows)) la lb in
       let lr = rows-length (l .sizes) (l .rows) words h in
       let ls : length (take k (drop from rs)) ≡ k = simp (length-take, length-drop) (omega arith) in
-      ap₂ (zipWith row) (part-is (l .sizes)) (part-is (l .sizes + l .rows))
-      ∙ ext-getD (row 0 0) (zipWith row (part (l .sizes)) (part (l .sizes + l .rows))) (take k (drop from rs)) (lz ∙ sym ls)
+      ext-getD (row 0 0) (zipWith row (part (l .sizes)) (part (l .sizes + l .rows))) (take k (drop from rs)) (lz ∙ sym ls)
       (λ j g.
       let i : j < k = omega arith in
       getD-zipWith row (part (l .sizes)) (part (l .sizes + l .rows)) j 0 0 (omega arith) (omega arith)
@@ -346,3 +346,6 @@ module _ (words : List ℕ) (l : Layout) (from to : ℕ) (f : from ≤ to) (t : 
       ∙ getD-drop from rs j (row 0 0)
       ∙ rows-at (l .sizes) (l .rows) words h (from + j) (omega arith)))
       ∙ sym (span-is rs from k to (omega arith))
+
+  pub columns-span : zipWith row (columnPart words l (l .sizes) from to) (columnPart words l (l .sizes + l .rows) from to) ≡ span rs from to
+  columns-span = ap₂ (zipWith row) (part-is (l .sizes)) (part-is (l .sizes + l .rows)) ∙ words-span

@@ -16,6 +16,7 @@ use Rattle.sheet_rows.specs.declared.position.Sheet.{Sheet}
 use Rattle.sheet_rows.specs.declared.position.Sheet.the-variants as Of
 use Rattle.sheet_check.specs.declared.rows.Layout.{Layout}
 use Rattle.sheet_index.specs.declared.index.Span.{Span}
+use Rattle.sheet_index.specs.declared.index.Part.{Part}
 
 -- The row begins an action, a method or a node.
 abbrev pub marks : Row → Bool
@@ -90,3 +91,13 @@ valuesOf s shop order =
 unfoldable pub spanRows : List ℕ → List ℕ → Span → List Row
 unfolding zipWith
 spanRows shop order s = zipWith row (tagsOf s shop order) (valuesOf s shop order)
+
+-- The rows of a part of these words.
+unfoldable pub partRows : List ℕ → Part → List Row
+unfolding zipWith
+partRows words p = zipWith row (take (p .rows) (drop (p .tags) words)) (take (p .rows) (drop (p .values) words))
+
+-- Every row of the part has its tag and its value among the words.
+pub record Lies (words : List ℕ) (p : Part) : Type 0 where
+  pub tags-end : p .tags + p .rows ≤ length words
+  pub values-end : p .values + p .rows ≤ length words

@@ -9,12 +9,13 @@ use Rattle.hgn.specs.Questions.{passed}
 use Rattle.hgn.specs.Rows.{mostRows}
 use Rattle.hgn.specs.Tag as Tag
 use Rattle.hgn.specs.Meaning.{Node, literals, nodeOf, goalOf}
-use Rattle.hgn.specs.Run.{methodAt}
-use Rattle.hgn.specs.Shop.{mostNodes, domain, rowCount, actionCount, methodCount, shopRows}
+use Rattle.hgn.specs.Run.{actionAt, methodAt}
+use Rattle.hgn.specs.Shop.{mostNodes, sizeWords, domain, rowCount, actionCount, methodCount, shopRows}
 use Rattle.hgn.specs.Order.{checkOrder}
 use Rattle.sheet_rows.specs.declared.position.Sheet.{Sheet}
 use Rattle.sheet_rows.specs.declared.position.Sheet.the-variants as Of
-use Rattle.sheet_index.specs.Index.{starts, ends, startsIn, spanOf, spanRows}
+use Rattle.sheet_index.specs.Index.{starts, ends, startsIn, spanOf, spanRows, partRows, Lies}
+use Rattle.sheet_index.specs.declared.index.Part.{Part}
 use Rattle.sheet_index.specs.declared.operators.Nodes.{Nodes}
 use Rattle.sheet_index.specs.declared.operators.MethodRows.{MethodRows}
 
@@ -23,6 +24,23 @@ pub record Indexed (shop order table : List ℕ) : Type 0 where
   pub checked : checkOrder shop order ≡ passed
   pub ends-are : take (rowCount shop) table ≡ ends 0 (shopRows shop)
   pub starts-are : take (suc (actionCount shop + methodCount shop)) (startsIn table) ≡ starts 0 (shopRows shop) ++ (rowCount shop ∷ [])
+
+-- The shop sheet has the rows `from` up to `to`.
+pub record Inside (shop : List ℕ) (from to : ℕ) : Type 0 where
+  pub in-order : from ≤ to
+  pub below : to ≤ rowCount shop
+  pub fits : sizeWords + (rowCount shop + rowCount shop) ≤ length shop
+
+-- The part has the rows `from` up to `to` of the shop sheet, whatever the order.
+pub record HasRows (shop : List ℕ) (from to : ℕ) (p : Part) : Type 0 where
+  pub lies : Lies shop p
+  pub rows-are : (order : List ℕ) → partRows shop p ≡ spanRows shop order (spanOf Of.Shop from to)
+
+-- The part has the needs and the effects of action `k`.
+pub record ActionIn (shop : List ℕ) (k : ℕ) (p : Part) : Type 0 where
+  pub lies : Lies shop p
+  pub needs : literals Tag.needsTrue Tag.needsFalse (partRows shop p) ≡ actionAt (domain shop) k .needs
+  pub effects : literals Tag.makesTrue Tag.makesFalse (partRows shop p) ≡ actionAt (domain shop) k .effects
 
 -- The rows of a node.
 pub record Bounds : Type 0 where

@@ -17,6 +17,13 @@ pub struct Span {
     pub to: Row,
 }
 
+// Rows of a sheet by where their words stand: the first tag, the first value, and how many rows there are.
+pub struct Part {
+    pub tags: usize,
+    pub values: usize,
+    pub rows: usize,
+}
+
 // Where the parts of a sheet stand, in one table of words: first the ends, for each row the next row that begins an action, a method or
 // a node; behind room for the ends of the most rows the starts, where each action and each method begins, with the end of the last.
 pub struct Tables {}

@@ -1,4 +1,5 @@
 // Where the actions, the methods and the nodes of a checked shop sheet stand, by its table. Document 01, "The three sheets".
+use crate::index::Part;
 use crate::index::Span;
 use crate::index::Tables;
 use sheet_check::check::Shop;
@@ -11,13 +12,13 @@ ghost use mathlib.Core.List.{List, []};
 ghost use Prim.Native.Nat.{ℕ, _+_, _<_, _≤_};
 ghost use lib.ListN.{length, getD};
 ghost use Rattle.hgn.specs.Lists.{parts};
-ghost use Rattle.hgn.specs.Meaning.{opens, actionOf};
+ghost use Rattle.hgn.specs.Meaning.{opens};
 ghost use Rattle.hgn.specs.Rows.{mostRows};
 ghost use Rattle.hgn.specs.Run.{actionAt};
 ghost use Rattle.hgn.specs.Shop.{domain, actionCount, methodCount, shopRows};
 ghost use Rattle.sheet_rows.specs.declared.position.Sheet.the-variants as Of;
 ghost use Rattle.sheet_index.specs.Index.{spanOf, spanRows};
-ghost use Rattle.sheet_index.specs.Tables.{Indexed, Bounds, Walk, NodesCounted, MethodAt};
+ghost use Rattle.sheet_index.specs.Tables.{Indexed, Inside, HasRows, ActionIn, Bounds, Walk, NodesCounted, MethodAt};
 
 // A method: its first row, the row at which its nodes begin, and the row behind its last.
 pub struct MethodRows {
@@ -45,6 +46,42 @@ impl Span {
     }
 }
 
+impl Part {
+    // Rows `from` up to `to` of the shop sheet, which has them.
+    fn inside(shop: &[u16], from: u16, to: u16) -> Part
+        requires { ⌜ Inside (now shop) from to ⌝ }
+        ensures { λ r. ⌜ HasRows (now (shop .entry)) from to r ⌝ }
+    {
+        let rows = word(shop, Shop::SIZES - 1) as usize;
+        let start = from as usize;
+        let end = to as usize;
+        Part {
+            tags: Shop::SIZES + start,
+            values: Shop::SIZES + rows + start,
+            rows: end - start,
+        }
+    }
+
+    // Rows `from` up to `to` of the shop sheet; none where it has no such rows.
+    pub fn of_shop(shop: &[u16], from: Row, to: Row) -> Part
+        ensures { λ r. ⌜ HasRows (now (shop .entry)) (from .0) (to .0) r ⌝ }
+    {
+        let rows = word(shop, Shop::SIZES - 1) as usize;
+        if from.0 <= to.0 {
+            if to.0 as usize <= rows {
+                if Shop::SIZES + (rows + rows) <= shop.len() {
+                    return Part::inside(shop, from.0, to.0);
+                }
+            }
+        }
+        Part {
+            tags: 0,
+            values: 0,
+            rows: 0,
+        }
+    }
+}
+
 // The rows of an action or a method: actions and methods are counted together from 0, in the sheet's order.
 pub fn operator_rows(tables: &[u16], operator: u16) -> Span
     requires { ⌜ ((shop order : List ℕ) × Indexed shop order (now tables) × (operator < actionCount shop + methodCount shop)) ⌝ }
@@ -57,15 +94,15 @@ pub fn operator_rows(tables: &[u16], operator: u16) -> Span
     Span::of_shop(from, to)
 }
 
-// The rows of an action by its number, from 1.
-pub fn action_rows(tables: &[u16], action: u16) -> Span
-    requires { ⌜ ((shop order : List ℕ) × Indexed shop order (now tables) × (1 ≤ action) × (action ≤ actionCount shop)) ⌝ }
-    ensures { λ r. ⌜ ((shop order : List ℕ) → Indexed shop order (now (tables .entry)) → action ≤ actionCount shop → actionAt (domain shop) action ≡ actionOf (spanRows shop order r)) ⌝ }
+// The rows of an action behind its first, by its number, from 1: its needs and its effects.
+pub fn action_part(shop: &[u16], tables: &[u16], action: u16) -> Part
+    requires { ⌜ ((order : List ℕ) × Indexed (now shop) order (now tables) × (1 ≤ action) × (action ≤ actionCount (now shop))) ⌝ }
+    ensures { λ r. ⌜ ActionIn (now (shop .entry)) action r ⌝ }
 {
     let at = Tables::STARTS + action as usize;
-    let from = Row(tables[at - 1]);
-    let to = Row(tables[at]);
-    Span::of_shop(from, to)
+    let from = tables[at - 1] + 1;
+    let to = tables[at];
+    Part::inside(shop, from, to)
 }
 
 // The cost of an action by its number, from 1: the value of its first row.

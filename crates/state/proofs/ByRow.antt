@@ -1,21 +1,19 @@
 -- The literals of the rows with two tags, and the values of those with one, row by row. Assumes nothing.
 use Prim.Native.Nat.{ℕ, _≤_}
 use mathlib.Core.Path.{_≡_, refl, ap, _∙_}
-use mathlib.Core.Bool.{Bool, true, false, cond, _&&_, _||_}
+use mathlib.Core.Bool.{Bool, true, false, cond, _&&_}
 use mathlib.Core.List.{List, [], _∷_, _++_}
 use lib.ListN.{length, set}
 use lib.Seq.{set-out}
 use borrow.Author.Tests.{eq-eqb, ne-eqb}
 use Rattle.hgn.specs.Rows.{Row, row, has, valuesOf}
-use Rattle.hgn.specs.Meaning.{Literal, literals}
-use Rattle.hgn.specs.State.{State, assign, literalHolds, allHold, contains}
-use Rattle.hgn.proofs.Tests.{all-append, any-append}
+use Rattle.hgn.specs.Meaning.{literals}
+use Rattle.hgn.specs.State.{State, assign, literalHolds, allHold}
+use Rattle.hgn.proofs.Tests.{all-append}
+use Rattle.state.specs.Effects.{setEach}
 
 abbrev pub allHoldIn : State → ℕ → ℕ → List Row → Bool
 allHoldIn s t f rs = allHold s (literals t f rs)
-
-abbrev pub containedIn : Literal → ℕ → ℕ → List Row → Bool
-containedIn l t f rs = contains (literals t f rs) l
 
 abbrev pub assignedIn : Bool → ℕ → State → List Row → State
 assignedIn b t s rs = assign b (valuesOf t rs) s
@@ -59,17 +57,6 @@ module _ (t f : ℕ) where
       pub first-fails : told ≡ false → allHoldIn s t f (r ∷ rs) ≡ false
       first-fails h = rw (all-first, h)
 
-    module _ (l : Literal) (e : told ≡ containedIn l t f (r ∷ [])) where
-      any-first : containedIn l t f (r ∷ rs) ≡ (told || containedIn l t f rs)
-      unfolding contains
-      any-first = ap (λ (ls : List Literal). contains ls l) (first-row r rs) ∙ any-append _ (literals t f (r ∷ [])) (literals t f rs) ∙ rw (← e)
-
-      pub first-is : told ≡ true → containedIn l t f (r ∷ rs) ≡ true
-      first-is h = rw (any-first, h)
-
-      pub first-is-not : told ≡ false → containedIn l t f (r ∷ rs) ≡ containedIn l t f rs
-      first-is-not h = rw (any-first, h)
-
 -- A row's value is assigned before those of the rows after it, or it has another tag, or it is no atom.
 module _ (b : Bool) (tag : ℕ) (s : State) (t v : ℕ) (rs : List Row) where
   pub assigned-first : t ≡ tag → assignedIn b tag s (row t v ∷ rs) ≡ assignedIn b tag (set s v b) rs
@@ -82,3 +69,26 @@ module _ (b : Bool) (tag : ℕ) (s : State) (t v : ℕ) (rs : List Row) where
 
   pub assigned-none : t ≡ tag → length s ≤ v → assignedIn b tag s (row t v ∷ rs) ≡ assignedIn b tag s rs
   assigned-none e h = assigned-first e ∙ ap (assign b (valuesOf tag rs)) (set-out s v b h)
+
+-- A row's literal is set before those of the rows after it, or it has none, or its atom is none of the state's.
+abbrev pub setIn : ℕ → ℕ → State → List Row → State
+setIn t f s rs = setEach (literals t f rs) s
+
+module _ (t f : ℕ) (s : State) {tag : ℕ} (value : ℕ) (rs : List Row) where
+  pub set-true : tag ≡ t → setIn t f s (row tag value ∷ rs) ≡ setIn t f (set s value true) rs
+  unfolding setEach
+  set-true e = rw (true-row t f value rs e)
+
+  pub set-false : (tag ≡ t → ⊥) → tag ≡ f → setIn t f s (row tag value ∷ rs) ≡ setIn t f (set s value false) rs
+  unfolding setEach
+  set-false d e = rw (false-row t f value rs d e)
+
+  pub set-neither : (tag ≡ t → ⊥) → (tag ≡ f → ⊥) → setIn t f s (row tag value ∷ rs) ≡ setIn t f s rs
+  set-neither d e = rw (no-row t f value rs d e)
+
+  module _ (h : length s ≤ value) where
+    pub set-no-atom-true : tag ≡ t → setIn t f s (row tag value ∷ rs) ≡ setIn t f s rs
+    set-no-atom-true e = set-true e ∙ ap (setEach (literals t f rs)) (set-out s value true h)
+
+    pub set-no-atom-false : (tag ≡ t → ⊥) → tag ≡ f → setIn t f s (row tag value ∷ rs) ≡ setIn t f s rs
+    set-no-atom-false d e = set-false d e ∙ ap (setEach (literals t f rs)) (set-out s value false h)

@@ -1,7 +1,7 @@
 -- The formula of a node's rows, one row at a time: does it hold, are effects relevant to it? Assumes nothing.
 use Prim.Native.Nat.{ℕ}
 use mathlib.Core.Path.{_≡_, refl, sym, ap, _∙_}
-use mathlib.Core.Bool.{Bool, true, false, cond, not, _&&_, _||_, and-false, or-assoc}
+use mathlib.Core.Bool.{Bool, true, false, cond, not, _&&_, _||_, and-false, or-true}
 use mathlib.Core.List.{List, [], _∷_, _++_, map, flatten, append-assoc}
 use borrow.Author.Tests.{eqb-true, ne-eqb}
 use Rattle.hgn.specs.Lists.{any, all, upTo, parts}
@@ -10,7 +10,12 @@ use Rattle.hgn.specs.Tag.{alternative, wantedTrue, wantedFalse}
 use Rattle.hgn.specs.Meaning.{Literal, literals, nodeOf}
 use Rattle.hgn.specs.State.{State, allHold, formulaHolds, opposite, contains, relevant}
 use Rattle.hgn.proofs.Tests.{any-append}
+use Rattle.state.specs.Effects.{metOf}
+use Rattle.state.specs.declared.literals.Met.{Met}
+use Rattle.state.specs.declared.literals.Met.the-variants.{Opposite, Same, Neither}
 use Rattle.state.proofs.ByRow.{first-row, all-first}
+use Rattle.state.proofs.Meetings as Meetings
+use Rattle.state.proofs.Meetings.{opposed, untouched}
 
 wanted : List Row → List Literal
 wanted rs = literals wantedTrue wantedFalse rs
@@ -99,14 +104,22 @@ module _ (effects : List Literal) where
     unfolding wanted
     any-wanted test = ap (any test) (first-row wantedTrue wantedFalse (row t v) rs) ∙ any-append test _ _
 
-    -- The opposite of the row's literal is contained, or it is not.
-    module _ (helped : Bool) {opposed : Bool} (e : opposed ≡ any (λ l. contains effects (opposite l)) (literals wantedTrue wantedFalse (row t v ∷ []))) where
-      pub blocked : opposed ≡ true → relevantFrom effects true helped (row t v ∷ rs) ≡ false
+    -- What the effects do to the row's literal.
+    module _ (helped : Bool) {told : Met} (e : told ≡ metOf effects (literals wantedTrue wantedFalse (row t v ∷ []))) where
+      pub blocked : told ≡ Opposite → relevantFrom effects true helped (row t v ∷ rs) ≡ false
       unfolding relevantFrom wantedFrom
       blocked h =
-          rw (any-wanted (λ l. contains effects (opposite l)), ← e, h) (and-false (helped || any (contains effects) (wanted (row t v ∷ rs))))
+          rw (any-wanted (λ l. contains effects (opposite l)), opposed effects (literals wantedTrue wantedFalse (row t v ∷ [])) (sym e ∙ h))
+          (and-false (helped || any (contains effects) (wanted (row t v ∷ rs))))
 
-      pub met : {helps : Bool} → opposed ≡ false → helps ≡ any (contains effects) (literals wantedTrue wantedFalse (row t v ∷ []))
-          → relevantFrom effects true helped (row t v ∷ rs) ≡ relevantFrom effects true (helped || helps) rs
+      pub met-same : told ≡ Same → relevantFrom effects true helped (row t v ∷ rs) ≡ relevantFrom effects true true rs
       unfolding relevantFrom wantedFrom
-      met h d = rw (any-wanted (λ l. contains effects (opposite l)), ← e, h, any-wanted (contains effects), ← d, or-assoc)
+      met-same h =
+          let m = Meetings.helped effects (literals wantedTrue wantedFalse (row t v ∷ [])) (sym e ∙ h) in
+          rw (any-wanted (λ l. contains effects (opposite l)), m .0, any-wanted (contains effects), m .1, or-true)
+
+      pub met-neither : told ≡ Neither → relevantFrom effects true helped (row t v ∷ rs) ≡ relevantFrom effects true helped rs
+      unfolding relevantFrom wantedFrom
+      met-neither h =
+          let m = untouched effects (literals wantedTrue wantedFalse (row t v ∷ [])) (sym e ∙ h) in
+          rw (any-wanted (λ l. contains effects (opposite l)), m .0, any-wanted (contains effects), m .1)

@@ -1,2 +1,2 @@
--- The literals that a test of relevance looks for.
-pub mod Wanted
+-- What effects do to wanted literals and to a state.
+pub mod Effects

@@ -1,11 +1,15 @@
 // States, as a set of atoms. Document 01, "How a derivation runs".
 use crate::part;
 use sheet_check::check::Shop;
+use sheet_index::index::Part;
 use sheet_rows::position::Atom;
 ghost use mathlib.Core.Path.{_≡_};
 ghost use mathlib.Core.List.{zipWith};
 ghost use Rattle.hgn.specs.Rows.{row, valuesOf};
+ghost use Rattle.hgn.specs.Meaning.{literals};
 ghost use Rattle.hgn.specs.State.{emptyState, literalHolds, assign};
+ghost use Rattle.sheet_index.specs.Index.{partRows, Lies};
+ghost use Rattle.state.specs.Effects.{setEach};
 
 // For each atom, whether it is in.
 pub struct State {
@@ -66,4 +70,29 @@ pub fn assigned(
     let mut next = atoms;
     assign(&mut next, tags, values, tag, to);
     next
+}
+
+// The literals of a part's rows with these two tags, one for true and one for false: each atom is put in or taken out in turn.
+pub fn set_each(atoms: &mut [bool], words: &[u16], part: Part, yes: u16, no: u16)
+    requires { ⌜ Lies (now words) part ⌝ }
+    ensures { λ _. ⌜ now (atoms .exit) ≡ setEach (literals «yes» «no» (partRows (now (words .entry)) part)) (now (atoms .entry)) ⌝ }
+{
+    let tags = part.tags;
+    let values = part.values;
+    let n = part.rows;
+    let mut i = 0;
+    while i < n {
+        let tag = words[tags + i];
+        let at = words[values + i] as usize;
+        i += 1;
+        if tag == yes {
+            if at < atoms.len() {
+                atoms[at] = true;
+            }
+        } else if tag == no {
+            if at < atoms.len() {
+                atoms[at] = false;
+            }
+        }
+    }
 }

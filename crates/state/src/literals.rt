@@ -1,18 +1,20 @@
 // Tests on the rows of a part: do its literals hold, does its formula, are these effects relevant to it?
-// A part is lent as its tags and its values. Document 01, "How a derivation runs".
+// The rows of an operator are read where their words stand; those of a waiting goal are lent as its tags and its values. Document 01,
+// "How a derivation runs".
 use crate::atoms;
 use crate::part;
 use sheet_check::check::Shop;
+use sheet_index::index::Part;
 use sheet_rows::position::Atom;
 use sheet_rows::tag;
 ghost use mathlib.Core.Path.{_≡_};
 ghost use mathlib.Core.List.{[], _∷_, zipWith};
-ghost use Rattle.hgn.specs.Lists.{any};
 ghost use Rattle.hgn.specs.Rows.{row};
 ghost use Rattle.hgn.specs.Tag.{wantedTrue, wantedFalse};
 ghost use Rattle.hgn.specs.Meaning.{literals, nodeOf};
-ghost use Rattle.hgn.specs.State.{allHold, formulaHolds, contains, relevant};
-ghost use Rattle.state.specs.Wanted.{sameOrOpposite};
+ghost use Rattle.hgn.specs.State.{allHold, formulaHolds, relevant};
+ghost use Rattle.sheet_index.specs.Index.{partRows, Lies};
+ghost use Rattle.state.specs.Effects.{metOf};
 
 // The row's literal holds, if it has one: its tag is one of these two, one for true and one for false.
 fn row_holds(
@@ -33,20 +35,23 @@ fn row_holds(
     true
 }
 
-// Every literal of the rows with these two tags, one for true and one for false, holds.
+// Every literal of a part's rows with these two tags, one for true and one for false, holds.
 pub fn all_hold(
     atoms: &[bool; Shop::MOST_ATOMS as usize],
-    tags: &[u16],
-    values: &[u16],
+    words: &[u16],
+    part: Part,
     yes: u16,
     no: u16,
 ) -> bool
-    ensures { λ r. ⌜ r ≡ allHold (now (atoms .entry)) (literals «yes» «no» (zipWith row (now (tags .entry)) (now (values .entry)))) ⌝ }
+    requires { ⌜ Lies (now words) part ⌝ }
+    ensures { λ r. ⌜ r ≡ allHold (now (atoms .entry)) (literals «yes» «no» (partRows (now (words .entry)) part)) ⌝ }
 {
-    let n = part::rows(tags, values);
+    let tags = part.tags;
+    let values = part.values;
+    let n = part.rows;
     let mut i = 0;
     while i < n {
-        if row_holds(atoms, tags[i], values[i], yes, no) {
+        if row_holds(atoms, words[tags + i], words[values + i], yes, no) {
             i += 1;
         } else {
             return false;
@@ -83,76 +88,101 @@ pub fn formula_holds(
     so_far
 }
 
-// The row has this literal, an atom and its sign.
-fn row_is(tag: u16, value: u16, yes: u16, no: u16, atom: Atom, sign: bool) -> bool
-    ensures { λ r. ⌜ r ≡ contains (literals «yes» «no» (row tag value ∷ [])) (record { sign = sign; atom = atom .0 }) ⌝ }
+// What effects do to wanted literals: they contain the opposite of one, or else one of them, or neither.
+pub enum Met {
+    Opposite,
+    Same,
+    Neither,
+}
+
+// What an effect, an atom and its own sign, does to a wanted literal.
+fn literal_met(own: bool, value: u16, atom: Atom, sign: bool) -> Met
+    ensures { λ r. ⌜ r ≡ metOf (record { sign = own; atom = value } ∷ []) (record { sign = sign; atom = atom .0 } ∷ []) ⌝ }
 {
     let wanted = atom.0;
-    if tag == yes {
-        if sign {
-            return value == wanted;
+    if value == wanted {
+        if own {
+            if sign {
+                return Met::Same;
+            }
+            return Met::Opposite;
         }
-        return false;
+        if sign {
+            return Met::Opposite;
+        }
+        return Met::Same;
+    }
+    Met::Neither
+}
+
+// What a row's literal, if it has one with these two tags, does to a wanted literal.
+fn row_met(tag: u16, value: u16, yes: u16, no: u16, atom: Atom, sign: bool) -> Met
+    ensures { λ r. ⌜ r ≡ metOf (literals «yes» «no» (row tag value ∷ [])) (record { sign = sign; atom = atom .0 } ∷ []) ⌝ }
+{
+    if tag == yes {
+        return literal_met(true, value, atom, sign);
     }
     if tag == no {
-        if sign {
-            return false;
-        }
-        return value == wanted;
+        return literal_met(false, value, atom, sign);
     }
-    false
+    Met::Neither
 }
 
-// The literal, an atom and its sign, stands in the rows with these two tags.
-pub fn contained(tags: &[u16], values: &[u16], yes: u16, no: u16, atom: Atom, sign: bool) -> bool
-    ensures { λ r. ⌜ r ≡ contains (literals «yes» «no» (zipWith row (now (tags .entry)) (now (values .entry)))) (record { sign = sign; atom = atom .0 }) ⌝ }
+// What the effects in a part's rows with these two tags do to a wanted literal.
+fn part_met(words: &[u16], effects: Part, yes: u16, no: u16, atom: Atom, sign: bool) -> Met
+    requires { ⌜ Lies (now words) effects ⌝ }
+    ensures { λ r. ⌜ r ≡ metOf (literals «yes» «no» (partRows (now (words .entry)) effects)) (record { sign = sign; atom = atom .0 } ∷ []) ⌝ }
 {
-    let n = part::rows(tags, values);
+    let tags = effects.tags;
+    let values = effects.values;
+    let n = effects.rows;
+    let mut same = false;
     let mut i = 0;
     while i < n {
-        if row_is(tags[i], values[i], yes, no, atom, sign) {
-            return true;
-        }
+        let here = row_met(words[tags + i], words[values + i], yes, no, atom, sign);
         i += 1;
+        match here {
+            Met::Opposite => {
+                return Met::Opposite;
+            }
+            Met::Same => {
+                same = true;
+            }
+            Met::Neither => {}
+        }
     }
-    false
+    if same {
+        return Met::Same;
+    }
+    Met::Neither
 }
 
-// The literal that the row wants, if it wants one, or the opposite of it where not the same is asked for, stands in the rows with
-// these two tags.
-fn wanted_in(
-    effect_tags: &[u16],
-    effect_values: &[u16],
-    yes: u16,
-    no: u16,
-    tag: u16,
-    value: u16,
-    same: bool,
-) -> bool
-    ensures { λ r. ⌜ r ≡ any (λ l. contains (literals «yes» «no» (zipWith row (now («effect_tags» .entry)) (now («effect_values» .entry))))
-        (sameOrOpposite same l)) (literals wantedTrue wantedFalse (row tag value ∷ [])) ⌝ }
+// What the effects in a part's rows with these two tags do to the literal that a row wants, if it wants one.
+fn wanted_met(words: &[u16], effects: Part, yes: u16, no: u16, tag: u16, value: u16) -> Met
+    requires { ⌜ Lies (now words) effects ⌝ }
+    ensures { λ r. ⌜ r ≡ metOf (literals «yes» «no» (partRows (now (words .entry)) effects)) (literals wantedTrue wantedFalse (row tag value ∷ [])) ⌝ }
 {
     if tag == tag::WANTED_TRUE {
-        return contained(effect_tags, effect_values, yes, no, Atom(value), same);
+        return part_met(words, effects, yes, no, Atom(value), true);
     }
     if tag == tag::WANTED_FALSE {
-        return contained(effect_tags, effect_values, yes, no, Atom(value), !same);
+        return part_met(words, effects, yes, no, Atom(value), false);
     }
-    false
+    Met::Neither
 }
 
-// The effects in the rows with these two tags are relevant to the formula of a node's rows: they contain one of its literals and
+// The effects in a part's rows with these two tags are relevant to the formula of a node's rows: they contain one of its literals and
 // the opposite of none.
 pub fn is_relevant(
-    effect_tags: &[u16],
-    effect_values: &[u16],
+    words: &[u16],
+    effects: Part,
     yes: u16,
     no: u16,
     tags: &[u16],
     values: &[u16],
 ) -> bool
-    ensures { λ r. ⌜ r ≡ relevant (literals «yes» «no» (zipWith row (now («effect_tags» .entry)) (now («effect_values» .entry))))
-        (nodeOf (zipWith row (now (tags .entry)) (now (values .entry))) .formula) ⌝ }
+    requires { ⌜ Lies (now words) effects ⌝ }
+    ensures { λ r. ⌜ r ≡ relevant (literals «yes» «no» (partRows (now (words .entry)) effects)) (nodeOf (zipWith row (now (tags .entry)) (now (values .entry))) .formula) ⌝ }
 {
     let n = part::rows(tags, values);
     // The row stands in an alternative; none does before the first 8.
@@ -166,11 +196,15 @@ pub fn is_relevant(
         if tag == tag::ALTERNATIVE {
             inside = true;
         } else if inside {
-            if wanted_in(effect_tags, effect_values, yes, no, tag, value, false) {
-                return false;
-            }
-            if !helped {
-                helped = wanted_in(effect_tags, effect_values, yes, no, tag, value, true);
+            let here = wanted_met(words, effects, yes, no, tag, value);
+            match here {
+                Met::Opposite => {
+                    return false;
+                }
+                Met::Same => {
+                    helped = true;
+                }
+                Met::Neither => {}
             }
         }
     }

@@ -1,46 +1,48 @@
--- The effect of an action by its rows: less the values of its 6 rows, with those of its 5 rows. Assumes nothing.
-use Prim.Native.Nat.{ℕ}
+-- The effects of an action, set one after the other, are γ's change: their atoms rise, so none stands twice. Assumes nothing.
+use Prim.Native.Nat.{ℕ, suc, _≤_}
 use native.Mathlib.Omega.{arith}
-use mathlib.Core.Path.{_≡_, refl, sym, ap, ap₂}
-use mathlib.Core.Bool.{Bool, true, false, cond}
-use mathlib.Core.List.{List, [], _∷_}
-use borrow.Author.Tests.{eqb-true}
-use Rattle.hgn.specs.Rows.{Row, has, valuesOf}
-use Rattle.hgn.specs.Tag as Tag
-use Rattle.hgn.specs.Meaning.{Literal, literals}
+use mathlib.Core.Path.{_≡_, refl, sym, ap, _∙_}
+use mathlib.Core.Bool.{Bool, true, false, cond, Bool·beq}
+use mathlib.Core.List.{List, [], _∷_, List·Memᴰ, List·Memᴰ·head, List·Memᴰ·tail, List·Memᴰ·not-nil}
+use lib.ListN.{set}
+use lib.Seq.{set-comm}
+use Rattle.hgn.specs.Meaning.{Literal}
 use Rattle.hgn.specs.State.{State, assign, atomsOf, γ}
+use Rattle.hgn.specs.Written.{ConjunctRules}
+use Rattle.hgn.proofs.Rules.{Rise, atoms, rise}
+use Rattle.state.specs.Effects.{setEach}
 
-made-true : (rows : List Row) → atomsOf true (literals Tag.makesTrue Tag.makesFalse rows) ≡ valuesOf Tag.makesTrue rows
-unfolding atomsOf literals valuesOf
-made-true [] = refl
-made-true (r ∷ rows) = go (has Tag.makesTrue r) (has Tag.makesFalse r) (made-true rows)
-  where
-    rest : List Literal
-    rest = literals Tag.makesTrue Tag.makesFalse rows
+-- An atom that is none of those assigned may be set before them.
+set-before : (b : Bool) (xs : List ℕ) (s : State) (a : ℕ) (v : Bool) → ((x : ℕ) → List·Memᴰ x xs → x ≡ a → ⊥) → set (assign b xs s) a v ≡ assign b xs (set s a v)
+unfolding assign
+set-before b [] s a v apart = refl
+set-before b (x ∷ xs) s a v apart =
+    set-before b xs (set s x b) a v (λ y m. apart y (List·Memᴰ·tail m)) ∙ ap (assign b xs) (set-comm s x a b v (apart x (List·Memᴰ·head refl)))
 
-    go : (a b : Bool) → atomsOf true rest ≡ valuesOf Tag.makesTrue rows
-        → atomsOf true (cond a (record { sign = true; atom = r .value } ∷ rest) (cond b (record { sign = false; atom = r .value } ∷ rest) rest))
-        ≡ cond a (r .value ∷ valuesOf Tag.makesTrue rows) (valuesOf Tag.makesTrue rows)
-    go true b ih = ap {B = List ℕ} (λ l. r .value ∷ l) ih
-    go false true ih = ih
-    go false false ih = ih
+-- The atoms of rising literals are none of those before them.
+module _ (top : ℕ) where
+  later : (l : ℕ) (ls : List Literal) (b : Bool) → Rise top l (atoms ls) → (x : ℕ) → List·Memᴰ x (atomsOf b ls) → l ≤ x
+  unfolding atomsOf
+  later l [] b r x m = absurd (List·Memᴰ·not-nil m)
+  later l (k ∷ ls) b r x m = go (Bool·beq (k .sign) b) (λ n. let h = later (suc (k .atom)) ls b (r .2) x n in omega (arith, r .0)) m
+    where
+      go : (y : Bool) → (List·Memᴰ x (atomsOf b ls) → l ≤ x) → List·Memᴰ x (cond y (k .atom ∷ atomsOf b ls) (atomsOf b ls)) → l ≤ x
+      go true ih (List·Memᴰ·head e) = omega (arith, e, r .0)
+      go true ih (List·Memᴰ·tail n) = ih n
+      go false ih n = ih n
 
-made-false : (rows : List Row) → atomsOf false (literals Tag.makesTrue Tag.makesFalse rows) ≡ valuesOf Tag.makesFalse rows
-unfolding atomsOf literals valuesOf
-made-false [] = refl
-made-false (r ∷ rows) = go (has Tag.makesTrue r) (has Tag.makesFalse r) refl refl (made-false rows)
-  where
-    rest : List Literal
-    rest = literals Tag.makesTrue Tag.makesFalse rows
+  each-changes : (l : ℕ) (ls : List Literal) → Rise top l (atoms ls) → (s : State) → setEach ls s ≡ γ s ls
+  unfolding setEach γ atomsOf assign
+  each-changes l [] r s = refl
+  each-changes l (k ∷ ls) r s = each-changes (suc (k .atom)) ls (r .2) (set s (k .atom) (k .sign)) ∙ go (k .sign) refl
+    where
+      go : (y : Bool) → k .sign ≡ y → γ (set s (k .atom) (k .sign)) ls
+          ≡ assign true (cond (Bool·beq (k .sign) true) (k .atom ∷ atomsOf true ls) (atomsOf true ls))
+          (assign false (cond (Bool·beq (k .sign) false) (k .atom ∷ atomsOf false ls) (atomsOf false ls)) s)
+      go true e =
+          rw e (ap (assign true (atomsOf true ls)) (sym (set-before false (atomsOf false ls) s (k .atom) true (λ x m q.
+          let h = later (suc (k .atom)) ls false (r .2) x m in omega arith))))
+      go false e = rw e
 
-    go : (a b : Bool) → has Tag.makesTrue r ≡ a → has Tag.makesFalse r ≡ b → atomsOf false rest ≡ valuesOf Tag.makesFalse rows
-        → atomsOf false (cond a (record { sign = true; atom = r .value } ∷ rest) (cond b (record { sign = false; atom = r .value } ∷ rest) rest))
-        ≡ cond b (r .value ∷ valuesOf Tag.makesFalse rows) (valuesOf Tag.makesFalse rows)
-    go true true p q ih = absurd (omega (arith, eqb-true (r .tag) Tag.makesTrue p, eqb-true (r .tag) Tag.makesFalse q))
-    go true false p q ih = ih
-    go false true p q ih = ap {B = List ℕ} (λ l. r .value ∷ l) ih
-    go false false p q ih = ih
-
-pub changes : (rows : List Row) (s : State) → assign true (valuesOf Tag.makesTrue rows) (assign false (valuesOf Tag.makesFalse rows) s) ≡ γ s (literals Tag.makesTrue Tag.makesFalse rows)
-unfolding γ
-changes rows s = ap₂ (λ (a b : List ℕ). assign true a (assign false b s)) (sym (made-true rows)) (sym (made-false rows))
+pub changes : {top : ℕ} (ls : List Literal) → ConjunctRules top ls → (s : State) → setEach ls s ≡ γ s ls
+changes {top} ls h = each-changes top 0 ls (rise h)

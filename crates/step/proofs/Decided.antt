@@ -10,22 +10,22 @@ use borrow.Author.Tests.{ne-eqb}
 use Rattle.hgn.specs.Questions as Questions
 use Rattle.hgn.specs.Questions.{_asks_, passed, firstNo, told}
 use Rattle.hgn.specs.Tag as Tag
-use Rattle.hgn.specs.Meaning as Meaning
 use Rattle.hgn.specs.Meaning.{literals, nodeOf, goalOf, networkOf}
 use Rattle.hgn.specs.State.{State, allHold, relevant}
 use Rattle.hgn.specs.Network as Network
 use Rattle.hgn.specs.Network.{mostWaiting, goalAt, free, anyFree}
 use Rattle.hgn.specs.Run as Run
-use Rattle.hgn.specs.Run.{Problem, Rules, strict, refused, moveOf, actionAt, methodAt, ownQuestions}
+use Rattle.hgn.specs.Run.{Problem, Rules, strict, refused, moveOf, methodAt, ownQuestions}
 use Rattle.hgn.specs.Shop.{domain, actionCount, methodCount}
 use Rattle.hgn.proofs.Firsts.{Numbers, refused-number}
 use Rattle.sheet_rows.specs.Refusals.{refusalOf}
 use Rattle.sheet_rows.specs.declared.refusal.Refusal.{Refusal}
 use Rattle.sheet_rows.specs.declared.position.Sheet.the-variants as Of
+use Rattle.sheet_index.specs.declared.index.Part.{Part}
 use Rattle.sheet_index.specs.declared.index.Span.{Span}
 use Rattle.sheet_index.specs.Index.{spanOf, spanRows}
 use Rattle.network.specs.Entries.{waitingOf}
-use Rattle.sheet_index.specs.Tables.{Indexed, Bounds, Walk, NodesCounted, MethodAt}
+use Rattle.sheet_index.specs.Tables.{Indexed, ActionIn, Bounds, Walk, NodesCounted, MethodAt}
 use Rattle.sheet_index.specs.declared.operators.Nodes.{Nodes}
 use Rattle.sheet_index.specs.declared.operators.MethodRows.{MethodRows}
 use Rattle.step.specs.Moves.{Known, knownOf, readOf, moveRead}
@@ -134,7 +134,7 @@ module _ (shop order : List ℕ) (s : State) (goal : Span) (load : Load) where
   pub of-release : {m : Move} {r : Refusal} → m ≡ Release → Answers shop order s goal load Run.release r → Answers shop order s goal load (knownOf m) r
   of-release e said = rw e said
 
-  pub of-action : {m : Move} {k : ℕ} (rows : Span) {r : Refusal} → m ≡ Act k → actionAt (domain shop) k ≡ Meaning.actionOf (spanRows shop order rows)
+  pub of-action : {m : Move} {k : ℕ} (rows : Part) {r : Refusal} → m ≡ Act k → ActionIn shop k rows
       → OfAction shop order s rows goal r → Answers shop order s goal load (knownOf m) r
   of-action {k = k} rows e is said = rw e (said k load is)
 

@@ -7,18 +7,19 @@ use lib.Dec.{eqb}
 use lib.ListN.{length}
 use Rattle.hgn.specs.Questions as Questions
 use Rattle.hgn.specs.Questions.{_asks_, firstNo, told}
-use Rattle.hgn.specs.Meaning as Meaning
 use Rattle.hgn.specs.Meaning.{Domain, nodeOf, networkOf}
 use Rattle.hgn.specs.State.{State}
 use Rattle.hgn.specs.Network as Network
 use Rattle.hgn.specs.Network.{mostWaiting, goalAt, free, anyFree}
 use Rattle.hgn.specs.Run as Run
-use Rattle.hgn.specs.Run.{Problem, strict, actionAt, methodAt, ownQuestions, deedOf, moved, refused, taken, stepped}
+use Rattle.hgn.specs.Run.{Problem, strict, methodAt, ownQuestions, deedOf, moved, refused, taken, stepped}
 use Rattle.hgn.specs.Shop.{domain, actionCount, methodCount}
 use Rattle.sheet_rows.specs.Refusals.{refusalOf}
 use Rattle.sheet_rows.specs.declared.refusal.Refusal.{Refusal}
+use Rattle.sheet_index.specs.declared.index.Part.{Part}
 use Rattle.sheet_index.specs.declared.index.Span.{Span}
 use Rattle.sheet_index.specs.Index.{spanRows}
+use Rattle.sheet_index.specs.Tables.{ActionIn}
 use Rattle.network.specs.Entries.{waitingOf}
 use Rattle.step.specs.Moves.{Known, knownOf}
 use Rattle.network.specs.declared.goals.Seen.{Seen}
@@ -41,8 +42,8 @@ Answers shop order s goal load m r = (n : ℕ) (P : Problem) (p : ℕ) → Faces
     → refusalOf r ≡ told (firstNo (ownQuestions (strict (load .limit) (domain shop)) n P p m))
 
 -- The first no of the own questions of an action with these rows is told, whatever the action's number and the load.
-abbrev pub OfAction : List ℕ → List ℕ → State → Span → Span → Refusal → Type 0
-OfAction shop order s rows goal r = (k : ℕ) (load : Load) → actionAt (domain shop) k ≡ Meaning.actionOf (spanRows shop order rows)
+abbrev pub OfAction : List ℕ → List ℕ → State → Part → Span → Refusal → Type 0
+OfAction shop order s rows goal r = (k : ℕ) (load : Load) → ActionIn shop k rows
     → Answers shop order s goal load (Run.act k) r
 
 -- Where no waiting goal is free, the step tells 27 in place of 28.

@@ -5,10 +5,12 @@ use crate::moves::Step;
 use network::goals::Seen;
 use sheet_check::check::Shop;
 use sheet_check::rows::word;
+use sheet_index::index::Part;
 use sheet_index::index::Span;
 use sheet_index::operators;
 use sheet_rows::refusal::Refusal;
 use sheet_rows::tag;
+use state::literals;
 use state::parts;
 ghost use mathlib.Core.Path.{_≡_};
 ghost use Prim.Native.Nat.{_+_, _≤_, _<_};
@@ -19,6 +21,7 @@ ghost use Rattle.hgn.specs.Run as Run;
 ghost use Rattle.hgn.specs.Run.{Problem};
 ghost use Rattle.hgn.specs.Shop.{actionCount, methodCount};
 ghost use Rattle.step.specs.Moves.{Known, knownOf};
+ghost use Rattle.sheet_index.specs.Index.{Lies};
 ghost use Rattle.sheet_index.specs.Tables.{Indexed};
 ghost use Rattle.step.specs.Deciding.{OfAction, Answers, SeenIn, Decides};
 ghost use Rattle.hgn.specs.Network.{mostWaiting};
@@ -50,12 +53,13 @@ fn of_action<'a>(
     shop: &'a [u16],
     order: &'a [u16],
     atoms: &[bool; Shop::MOST_ATOMS as usize],
-    rows: Span,
+    rows: Part,
     goal: Span,
 ) -> Refusal
+    requires { ⌜ Lies (now shop) rows ⌝ }
     ensures { λ r. ⌜ OfAction (now (shop .entry)) (now (order .entry)) (now (atoms .entry)) rows goal r ⌝ }
 {
-    if parts::needs_hold(atoms, shop, order, rows) {
+    if literals::all_hold(atoms, shop, rows, tag::NEEDS_TRUE, tag::NEEDS_FALSE) {
         if parts::helps(shop, order, rows, tag::MAKES_TRUE, tag::MAKES_FALSE, goal) {
             return Refusal::none();
         }
@@ -80,10 +84,10 @@ fn of_method<'a>(
     ensures { λ r. ⌜ Answers (now (shop .entry)) (now (order .entry)) (now (atoms .entry)) goal load (Run.use-method method) r ⌝ }
 {
     let rows = operators::method_rows(shop, tables, method);
-    let head = Span::of_shop(rows.from, rows.first);
-    if parts::needs_hold(atoms, shop, order, head) {
+    let head = Part::of_shop(shop, rows.from, rows.first);
+    if literals::all_hold(atoms, shop, head, tag::NEEDS_TRUE, tag::NEEDS_FALSE) {
         let nodes = operators::nodes_between(tables, rows.first, rows.end);
-        let last = Span::of_shop(nodes.last, rows.end);
+        let last = Part::of_shop(shop, nodes.last, rows.end);
         if parts::helps(shop, order, last, tag::WANTED_TRUE, tag::WANTED_FALSE, goal) {
             if load.allows(nodes.count) {
                 return Refusal::none();
@@ -117,7 +121,7 @@ pub fn of_move<'a>(
             Refusal::by(29)
         }
         Move::Act(action) => {
-            let rows = operators::action_rows(tables, action);
+            let rows = operators::action_part(shop, tables, action);
             of_action(shop, order, atoms, rows, goal)
         }
         Move::Use(method) => of_method(shop, order, tables, atoms, method, goal, load),

@@ -17,12 +17,8 @@ abbrev μ-loop : tie.MeasureT-loop
 
 loop-again : tie.Need-loop-again Inv-loop μ-loop
 loop-again c =
-    let l = c .before .before .before .before .before in
-    let o = l .before .before .before in
-    let s = o .before .before .before .before in
-    achievers-next (s .pre) (l .before .loop .inv) (omega (arith, l .loop-test .taken, o .of .ensures .actions))
-    _ (c .before .before .before .before .action-rows .ensures _ _ (s .pre) (omega (arith, l .loop-test .taken, o .of .ensures .actions)))
-    (c .before .before .before .tags-of .ensures) (c .before .before .values-of .ensures) (c .note-effects .ensures)
+    let l = c .before .before .before in
+    achievers-next (l .before .before .before .before .before .before .before .pre) (l .before .loop .inv) (c .before .before .action-part .ensures) (c .note-effects .ensures)
 
 pub fill-spec : {M : Type 1} → statement M
 fill-spec =
@@ -36,16 +32,12 @@ fill-spec =
     (λ c. achieved-none _ (length-replicate {A = ℕ} achieversWords 0))
     -- add-action
     (λ c. search needs)
-    -- action-rows-requires
+    -- action-part-requires
     (λ c κs.
     let s = c .before .before .before .before .before .before .before in
-    (_, _, s .pre, omega arith, omega (arith, c .loop-test .taken, c .before .before .before .of .ensures .actions)))
-    -- tags-of-requires
-    (λ c κs. search needs)
-    -- values-of-requires
-    (λ c κs. search needs)
+    (_, s .pre, omega arith, omega (arith, c .loop-test .taken, c .before .before .before .of .ensures .actions)))
     -- note-effects-requires
-    (λ c κs. c .before .before .before .before .before .loop .inv .long)
+    (λ c κs. (c .before .before .before .loop .inv .long, c .before .action-part .ensures .lies))
     -- loop-less
     (λ c. search needs)
     -- loop-again

@@ -22,7 +22,7 @@ has-node-for-spec =
     Inv-loop
     μ-loop
     -- loop-holds
-    (λ c. looked-none _ (c .before .before .before .before .before .pre .1))
+    (λ c. looked-none _ (c .before .before .before .before .before .pre .0 .1))
     -- cast-at
     (λ c. search needs)
     -- mul-row

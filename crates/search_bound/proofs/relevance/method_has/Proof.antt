@@ -10,7 +10,7 @@ method-has-spec =
     -- method-rows-requires
     (λ c κs. let s = c .before .before .before in (_, s .pre .0, s .pre .1))
     -- has-node-for-requires
-    (λ c κs. let a = c .method-rows .ensures _ (c .before .before .before .before .pre .0) in (a .bs, a .walk))
+    (λ c κs. let a = c .method-rows .ensures _ (c .before .before .before .before .pre .0) in ((a .bs, a .walk), c .before .before .before .before .pre .2))
     -- returns
     (λ c.
     let a = c .before .method-rows .ensures _ (c .before .before .before .before .before .pre .0) in

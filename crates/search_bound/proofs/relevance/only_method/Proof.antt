@@ -9,7 +9,7 @@ use Rattle.search_bound.proofs.relevance.only_method.Tie as tie
 
 abbrev Inv-loop : tie.InvT-loop
 Inv-loop shop order tables action effects count found₀ method₀ found method =
-    FoundTo (hasNode shop order effects) method found × (method ≤ count)
+    FoundTo (hasNode shop effects) method found × (method ≤ count)
 
 abbrev μ-loop : tie.MeasureT-loop
 μ-loop shop order tables action effects count found₀ method₀ found method = count - method
@@ -20,8 +20,8 @@ only-method-spec =
     (tie.spec
     Inv-loop
     μ-loop
-    -- action-rows-requires
-    (λ c κs. let s = c .before .before .before in (_, _, s .pre .indexed, s .pre .first, s .pre .last))
+    -- action-part-requires
+    (λ c κs. let s = c .before .before .before in (_, s .pre .indexed, s .pre .first, s .pre .last))
     -- of-requires
     (λ c κs. search needs)
     -- loop-holds
@@ -29,7 +29,8 @@ only-method-spec =
     -- add-method
     (λ c. search needs)
     -- method-has-requires
-    (λ c κs. let s = c .before .before .before .before .before .before .before in (s .pre .indexed, omega (arith, c .loop-test .taken, c .before .before .of .ensures .methods)))
+    (λ c κs. let s = c .before .before .before .before .before .before .before in
+    (s .pre .indexed, omega (arith, c .loop-test .taken, c .before .before .of .ensures .methods), c .before .before .before .action-part .ensures .lies))
     -- returns
     (λ c p. absurd (omega arith))
     -- loop-less
@@ -43,5 +44,5 @@ only-method-spec =
     -- returns-2
     (λ c.
     let s = c .before .before .before .before .before .before .before in
-    method-alone (s .pre .indexed) _ _ (c .before .before .before .action-rows .ensures _ _ (s .pre .indexed) (s .pre .last)) (c .before .loop .inv .0)
+    method-alone (s .pre .indexed) _ _ (c .before .before .before .action-part .ensures) (c .before .loop .inv .0)
     (omega (arith, c .loop-test .left, c .before .loop .inv .1, c .before .before .of .ensures .methods))))

@@ -27,8 +27,8 @@ wanted-by-spec =
     (tie.spec
     Inv-loop
     μ-loop
-    -- action-rows-requires
-    (λ c κs. let a = c .before .before .before .pre .0 in (_, _, a .indexed, a .first, a .last))
+    -- action-part-requires
+    (λ c κs. let a = c .before .before .before .pre .0 in (_, a .indexed, a .first, a .last))
     -- count-of-requires
     (λ c κs. search needs)
     -- loop-holds
@@ -36,14 +36,14 @@ wanted-by-spec =
     -- entry-at-requires
     (λ c κs. let s = c .before .before .before .before .before .before .before in omega (arith, c .loop-test .taken, c .before .before .count-of .ensures, s .pre .1 .few))
     -- helps-requires
-    (λ c κs. search needs)
+    (λ c κs. c .before .before .before .before .before .action-part .ensures .lies)
     -- returns
     (λ c.
     let l = c .before .before .before .before in
     let n = l .before .before in
     let s = n .before .before .before .before .before in
     goals-found _ _ _ _ _ (l .before .loop .inv) (omega (arith, l .loop-test .taken, n .count-of .ensures)) (c .before .before .before .entry-at .ensures)
-    (wanted-at _ _ _ _ (n .before .action-rows .ensures _ _ (s .pre .0 .indexed) (s .pre .0 .last)) _ (c .before .helps .ensures) (c .if1 .taken)))
+    (wanted-at _ _ _ _ (n .before .action-part .ensures) _ (c .before .helps .ensures) (c .if1 .taken)))
     -- add-i
     (λ c. search needs)
     -- loop-less
@@ -54,7 +54,7 @@ wanted-by-spec =
     let n = l .before .before in
     let s = n .before .before .before .before .before in
     goals-on _ _ _ _ _ (l .before .loop .inv) (omega (arith, l .loop-test .taken, n .count-of .ensures)) (c .before .before .before .entry-at .ensures)
-    (wanted-at _ _ _ _ (n .before .action-rows .ensures _ _ (s .pre .0 .indexed) (s .pre .0 .last)) _ (c .before .helps .ensures) (c .if1 .left)))
+    (wanted-at _ _ _ _ (n .before .action-part .ensures) _ (c .before .helps .ensures) (c .if1 .left)))
     -- returns-2
     (λ c.
     let s = c .before .before .before .before .before .before .before in

@@ -10,7 +10,7 @@ use Rattle.hgn.specs.Tag as Tag
 use Rattle.hgn.specs.Meaning.{literals}
 use Rattle.hgn.specs.State.{relevant}
 use Rattle.hgn.specs.Network.{free}
-use Rattle.sheet_index.specs.Index.{spanRows}
+use Rattle.sheet_index.specs.Index.{partRows}
 use Rattle.network.specs.Goals.{listIn}
 use Rattle.search_pruning.proofs.Lower.{lower-none, lower-irrelevant, lower-found, lower-held}
 use Rattle.search_pruning.proofs.rules.helps_lower.Statement.{statement}
@@ -18,8 +18,8 @@ use Rattle.search_pruning.proofs.rules.helps_lower.Tie as tie
 
 abbrev Inv-loop : tie.InvT-loop
 Inv-loop shop order goals rows end i₀ i =
-    any (λ g. relevant (literals Tag.makesTrue Tag.makesFalse (spanRows shop order rows)) (g .formula) && free (listIn shop order goals) g) (take end (listIn shop order goals))
-    ≡ any (λ g. relevant (literals Tag.makesTrue Tag.makesFalse (spanRows shop order rows)) (g .formula) && free (listIn shop order goals) g)
+    any (λ g. relevant (literals Tag.makesTrue Tag.makesFalse (partRows shop rows)) (g .formula) && free (listIn shop order goals) g) (take end (listIn shop order goals))
+    ≡ any (λ g. relevant (literals Tag.makesTrue Tag.makesFalse (partRows shop rows)) (g .formula) && free (listIn shop order goals) g)
     (drop i (take end (listIn shop order goals)))
 
 abbrev μ-loop : tie.MeasureT-loop
@@ -45,7 +45,7 @@ helps-lower-spec =
     -- entry-at-requires
     (λ c κs. let l = c .before .before in let s = begun l in omega (arith, l .loop-test .taken, s .pre .1, s .pre .0 .within .few))
     -- helps-requires
-    (λ c κs. search needs)
+    (λ c κs. let l = c .before .before .before .before in begun l .pre .2)
     -- returns: a lower goal is free and wants it
     (λ c.
     let l = c .before .before .before .before .before .before in

@@ -11,14 +11,8 @@ idle-spec =
     (λ c. search needs)
     (λ c. search needs)
     (λ c κs. let s = c .before .before .before .before .before .before in action-inside (s .pre .0) (s .pre .1) (c .before .mv .given .1))
-    (λ c κs. search needs)
-    (λ c κs. search needs)
-    (λ c κs. search needs)
+    (λ c κs. c .action-part .ensures .lies)
     (λ c. search needs)
     (λ c. idle-release _ (c .enum-told .given .1) _)
-    (λ c.
-    let f = c .before .before .before in
-    let s = f .before .before .before .before .before .before .before in
-    idle-action (s .pre .0) (s .pre .1) (f .before .before .mv .given .1) _ (f .action-rows .ensures) _ (c .before .before .tags-of .ensures)
-    (c .before .values-of .ensures) (c .all-hold .ensures))
+    (λ c. idle-action (c .before .before .before .mv .given .1) (c .before .action-part .ensures) _ (c .all-hold .ensures))
     (λ c. idle-method _ (c .before .mv2 .given .1) _))

@@ -11,10 +11,9 @@ lower-too-spec =
     (λ c. search needs)
     (λ c. search needs)
     (λ c κs. let s = c .before .before .before .before .before .before in action-inside (s .pre .0 .0) (s .pre .0 .1) (c .before .mv .given .1))
-    (λ c κs. c .before .before .before .before .before .before .before .pre .1)
+    (λ c κs. let s = c .before .before .before .before .before .before .before in (s .pre .1 .0, s .pre .1 .1, c .action-part .ensures .lies))
     (λ c. search needs)
     (λ c. lower-release _ (c .enum-told .given .1) _ _)
     (λ c.
-    let s = c .before .before .before .before .before .before .before .before in
-    lower-action (s .pre .0 .0) (s .pre .0 .1) (c .before .before .before .mv .given .1) _ (c .before .action-rows .ensures) _ _ (c .helps-lower .ensures))
+    lower-action (c .before .before .before .mv .given .1) (c .before .action-part .ensures) _ _ (c .helps-lower .ensures))
     (λ c. lower-method _ (c .before .mv2 .given .1) _ _))

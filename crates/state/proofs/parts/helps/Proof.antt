@@ -1,4 +1,4 @@
--- The rows handed back are the spans'. Assumes nothing.
+-- The goal's rows are the span's. Assumes nothing.
 use Prim.Native.Nat.{ℕ}
 use mathlib.Core.Path.{ap₂, _∙_}
 use mathlib.Core.List.{List, zipWith}
@@ -6,7 +6,7 @@ use borrow.Author.Needs.{needs}
 use Rattle.hgn.specs.Rows.{row}
 use Rattle.hgn.specs.Meaning.{literals, nodeOf}
 use Rattle.hgn.specs.State.{relevant}
-use Rattle.sheet_index.specs.Index.{spanRows}
+use Rattle.sheet_index.specs.Index.{spanRows, partRows}
 use Rattle.state.proofs.parts.helps.Statement.{statement}
 use Rattle.state.proofs.parts.helps.Tie as tie
 
@@ -18,12 +18,8 @@ helps-spec =
     (λ c κs. search needs)
     (λ c κs. search needs)
     (λ c κs. search needs)
-    (λ c κs. search needs)
-    (λ c κs. search needs)
     (λ c.
-    let a = c .before .before .before .before .before .before .before .args in
+    let a = c .before .before .before .before .before .args in
     c .is-relevant .ensures
-    ∙ ap₂ (λ (x y : List ℕ). relevant (literals (a .yes) (a .no) (zipWith row x y)) (nodeOf (zipWith row (c .before .before .tags-of2 .result .now) (c .before .values-of2 .result .now)) .formula))
-    (c .before .before .before .before .tags-of .ensures) (c .before .before .before .values-of .ensures)
-    ∙ ap₂ (λ (x y : List ℕ). relevant (literals (a .yes) (a .no) (spanRows (a .shop .now) (a .order .now) (a .effects)))
-    (nodeOf (zipWith row x y) .formula)) (c .before .before .tags-of2 .ensures) (c .before .values-of2 .ensures)))
+    ∙ ap₂ (λ (x y : List ℕ). relevant (literals (a .yes) (a .no) (partRows (a .shop .now) (a .effects))) (nodeOf (zipWith row x y) .formula))
+    (c .before .before .tags-of .ensures) (c .before .values-of .ensures)))

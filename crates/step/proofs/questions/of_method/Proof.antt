@@ -1,7 +1,9 @@
 -- A method's three questions, from its rows (`MethodAt`). Assumes nothing.
 use native.Mathlib.Omega.{arith}
 use mathlib.Core.Path.{_≡_, refl, ap, _∙_}
+use mathlib.Core.List.{List}
 use borrow.Author.Needs.{needs}
+use Rattle.hgn.specs.Rows.{Row}
 use Rattle.hgn.specs.Tag as Tag
 use Rattle.hgn.specs.Meaning.{literals, nodeOf}
 use Rattle.hgn.specs.State.{allHold, relevant}
@@ -9,29 +11,28 @@ use Rattle.sheet_rows.specs.declared.position.Sheet.the-variants as Of
 use Rattle.sheet_rows.proofs.Laws as Laws
 use Rattle.sheet_index.specs.Index.{spanOf, spanRows}
 use Rattle.sheet_index.specs.Tables.{MethodAt}
-use Rattle.sheet_index.specs.declared.index.Span.{Span}
 use Rattle.step.proofs.Decided.{method-unable, method-irrelevant, method-may, method-crowded}
 use Rattle.step.proofs.questions.of_method.Statement.{statement}
 use Rattle.step.proofs.questions.of_method.Tie as tie
 
 -- Once the needs are asked.
-module _ (c : tie.After-needs-hold) where
+module _ (c : tie.After-all-hold) where
   abbrev start : tie.Start
   start = c .before .before .before .before .before .before
 
   at : MethodAt (start .args .shop .now) (start .args .order .now) (start .args .tables .now) (start .args .method) (c .before .before .method-rows .result)
   at = c .before .before .method-rows .ensures _ (start .pre .0)
 
-  asked : c .needs-hold .result
+  asked : c .all-hold .result
       ≡ allHold (start .args .atoms .now) (literals Tag.needsTrue Tag.needsFalse (spanRows (start .args .shop .now) (start .args .order .now)
       (spanOf Of.Shop (c .before .before .method-rows .result .from .0) (c .before .before .method-rows .result .first .0))))
   asked =
-      c .needs-hold .ensures
-      ∙ ap (λ (x : Span). allHold (start .args .atoms .now) (literals Tag.needsTrue Tag.needsFalse (spanRows (start .args .shop .now) (start .args .order .now) x))) (c .before .of-shop .ensures)
+      c .all-hold .ensures
+      ∙ ap (λ (rs : List Row). allHold (start .args .atoms .now) (literals Tag.needsTrue Tag.needsFalse rs)) (c .before .of-shop .ensures .rows-are _)
 
 -- Once relevance is asked.
 module _ (c : tie.After-helps) where
-  abbrev needed : tie.After-needs-hold
+  abbrev needed : tie.After-all-hold
   needed = c .before .before .before .before
 
   told : c .helps .result
@@ -40,8 +41,8 @@ module _ (c : tie.After-helps) where
       (nodeOf (spanRows (start needed .args .shop .now) (start needed .args .order .now) (start needed .args .goal)) .formula)
   told =
       c .helps .ensures
-      ∙ ap (λ (x : Span). relevant (literals Tag.wantedTrue Tag.wantedFalse (spanRows (start needed .args .shop .now) (start needed .args .order .now) x))
-      (nodeOf (spanRows (start needed .args .shop .now) (start needed .args .order .now) (start needed .args .goal)) .formula)) (c .before .of-shop2 .ensures)
+      ∙ ap (λ (rs : List Row). relevant (literals Tag.wantedTrue Tag.wantedFalse rs)
+      (nodeOf (spanRows (start needed .args .shop .now) (start needed .args .order .now) (start needed .args .goal)) .formula)) (c .before .of-shop2 .ensures .rows-are _)
 
 pub of-method-spec : {M : Type 1} → statement M
 of-method-spec =
@@ -51,14 +52,14 @@ of-method-spec =
     (λ c κs. search needs)
     -- of-shop-requires
     (λ c κs. search needs)
-    -- needs-hold-requires
-    (λ c κs. search needs)
+    -- all-hold-requires
+    (λ c κs. c .of-shop .ensures .lies)
     -- nodes-between-requires
     (λ c κs. let a = at (c .before) in (a .bs, a .walk, omega (arith, a .few)))
     -- of-shop-requires-2
     (λ c κs. search needs)
     -- helps-requires
-    (λ c κs. search needs)
+    (λ c κs. c .of-shop2 .ensures .lies)
     -- allows-requires
     (λ c κs.
     let n = needed (c .before) in

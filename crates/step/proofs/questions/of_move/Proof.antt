@@ -27,13 +27,13 @@ of-move-spec =
     (λ c κs. search needs)
     -- enum-known-known
     (λ c. search needs)
-    -- action-rows-requires
+    -- action-part-requires
     (λ c κs.
     let s = c .before .before .before .before .before .before in
     let k = known-action (s .pre .0) (s .pre .1 .0) (c .before .known .given .1) in
-    (_, _, s .pre .0, k .0, k .1))
+    (_, s .pre .0, k .0, k .1))
     -- of-action-requires
-    (λ c κs. search needs)
+    (λ c κs. c .action-part .ensures .lies)
     -- enum-known-known-2
     (λ c. search needs)
     -- of-method-requires
@@ -45,9 +45,6 @@ of-move-spec =
     of-release _ _ _ _ _ (c .before .before .before .enum-told .given .1)
     (λ n P p f. c .by .ensures ∙ sym (ap told (own-29 _ _ _ _ _ _ n p P f (Laws.told (c .before .before .goal-holds .ensures) (c .before .if1 .left))))))
     -- returns-3
-    (λ c.
-    let s = c .before .before .before .before .before .before .before .before in
-    of-action _ _ _ _ _ (c .before .action-rows .result) (c .before .before .before .known .given .1)
-    (c .before .action-rows .ensures _ _ (s .pre .0) (known-action (s .pre .0) (s .pre .1 .0) (c .before .before .before .known .given .1) .1)) (c .of-action .ensures))
+    (λ c. of-action _ _ _ _ _ (c .before .action-part .result) (c .before .before .before .known .given .1) (c .before .action-part .ensures) (c .of-action .ensures))
     -- returns-4
     (λ c. of-method _ _ _ _ _ (c .before .before .known2 .given .1) (c .of-method .ensures)))
