@@ -7,7 +7,7 @@ use mathlib.Core.Bool.{Bool, true, false}
 use mathlib.Core.List.{List, [], _∷_, _++_, map}
 use lib.Dec.{eqb}
 use lib.ListN.{length, take, drop, getD, set, length-set, length-map, List·getD-map}
-use lib.Seq.{getD-set-same, getD-set-other}
+use lib.Seq.{getD-set-same, getD-set-other, set-getD}
 use borrow.Author.Tests.{eqb-true, eqb-false}
 use Rattle.hgn.specs.Network as Network
 use Rattle.hgn.specs.Network.{goalAt, noGoal, released}
@@ -21,12 +21,12 @@ use Rattle.network.specs.Entries.{waitingOf, noEntry, without}
 use Rattle.network.specs.declared.waiting.Entry.{Entry}
 use Rattle.network.proofs.Gaps.{list-released}
 use Rattle.network.specs.Pending.{listed, Counted}
-use Rattle.network.specs.Goals.{fields, pendingField, goalsWords, countIn, startOf, fieldIn, entryFrom, entryIn, pendingIn}
+use Rattle.network.specs.Goals.{fields, pendingField, countIn, startOf, fieldIn, entryFrom, entryIn, pendingIn}
 use Rattle.network.specs.Goals.{goalsFrom, countsFrom, goalsIn, listIn, countsIn, Within, Closed, Lowered, Left, OpenedWords}
 use Rattle.network.specs.Kept.{Raised}
 use Rattle.network.specs.Reaching.{ListReached}
 use Rattle.network.proofs.Counts.{Released}
-use Rattle.network.proofs.Counted.{counted-free, counted-enough, counted-left}
+use Rattle.network.proofs.Counted.{counted-free, counted-left}
 use Rattle.network.proofs.Reaching.{reached-sound}
 
 any-none : (test : Network.Waiting → Bool) (l : List Network.Waiting) → ((k : ℕ) → k < length l → test (goalAt l k) ≡ false) → any test l ≡ false
@@ -161,6 +161,14 @@ module _ (shop order : List ℕ) (p : ℕ) (ws : List ℕ) where
             let z = eqb-false k at d in
             ap (λ (j : ℕ). j + listed (goalAt (listIn shop order ws) k) (goalAt (listIn shop order ws) p)) (getD-set-other ws′ here (startOf k + pendingField) _ 0 (λ y. z (omega arith)))
             ∙ v .behind k a (omega (arith, z))
+
+    -- A goal that is not listed after it keeps its count.
+    pub lowering-none : 0 ≡ listed (goalAt (listIn shop order ws) at) (goalAt (listIn shop order ws) p) → startOf at + pendingField < length ws
+        → Lowering shop order p ws ws′ (at + 1)
+    lowering-none e h =
+        let same : pendingIn ws′ at - 0 ≡ pendingIn ws′ at = omega arith in
+        subst (λ (l : List ℕ). Lowering shop order p ws l (at + 1)) (ap (set ws′ (startOf at + pendingField)) same ∙ set-getD ws′ (startOf at + pendingField) 0)
+        (lowering-more 0 (startOf at + pendingField) refl e (omega arith) h)
 
     pub lowering-done : countIn ws ≤ at → Lowered shop order p ws ws′
     lowering-done h = record { size = v .size; others = v .others; counted = v .counted; before = v .before; behind = λ k a b. v .behind k a (omega arith) }

@@ -209,12 +209,17 @@ fn lower_counts<'a>(
     let count = goals[0];
     let mut at = place.0 + 1;
     while at < count {
-        let here = start_of(Place(at)) + Goals::PENDING;
-        let later = entry_at(goals, Place(at));
-        let times = times_listed(shop, order, later, goal);
-        let left = less(goals[here], times);
-        goals[here] = left;
+        let later = Place(at);
         at += 1;
+        let here = start_of(later) + Goals::PENDING;
+        let pending = goals[here];
+        // A goal that is free is listed after no goal that waits.
+        if 0 < pending {
+            let entry = entry_at(goals, later);
+            let times = times_listed(shop, order, entry, goal);
+            let left = less(pending, times);
+            goals[here] = left;
+        }
     }
 }
 

@@ -5,12 +5,12 @@ use mathlib.Core.Path.{_≡_, refl, sym, ap, ap₂, _∙_}
 use mathlib.Core.List.{List}
 use lib.ListN.{length, getD}
 use borrow.Author.Needs.{needs}
-use Rattle.hgn.specs.Network.{mostWaiting, goalAt}
+use Rattle.hgn.specs.Network.{mostWaiting, Waiting, goalAt}
 use Rattle.network.specs.Entries.{waitingOf}
 use Rattle.network.specs.Pending.{listed}
-use Rattle.network.specs.Goals.{pendingField, countIn, startOf, pendingIn, listIn, countsIn}
+use Rattle.network.specs.Goals.{pendingField, countIn, pendingIn, listIn, countsIn}
 use Rattle.network.proofs.Counted.{counted-enough}
-use Rattle.network.proofs.WaitingGoals.{Lowering, lowering-start, lowering-entry, lowering-more, lowering-done, list-length, list-at, count-at}
+use Rattle.network.proofs.WaitingGoals.{Lowering, lowering-start, lowering-entry, lowering-more, lowering-none, lowering-done, list-length, list-at, count-at}
 use Rattle.network.proofs.goals.lower_counts.Statement.{statement}
 use Rattle.network.proofs.goals.lower_counts.Tie as tie
 
@@ -20,10 +20,10 @@ Inv-loop shop order goals₀ goal count at₀ goals at = (p : ℕ) → at₀ ≡
 abbrev μ-loop : tie.MeasureT-loop
 μ-loop shop order goals₀ goal count at₀ goals at = count - at
 
--- A turn: the goal at `at` has been asked how often it is listed after the one at the place.
-module _ (c : tie.After-times-listed Inv-loop μ-loop) where
+-- A turn: the count of the goal at `at` is found.
+module _ (d : tie.After-start-of Inv-loop μ-loop) where
   abbrev turn : tie.At-loop Inv-loop μ-loop
-  turn = c .before .before .before .before .before
+  turn = d .before .before
 
   abbrev start : tie.Start Inv-loop μ-loop
   start = turn .before .before .before .before .before .before .before
@@ -41,33 +41,43 @@ module _ (c : tie.After-times-listed Inv-loop μ-loop) where
   v = turn .loop .inv p refl
 
   inside : at < countIn ws
-  inside = c .before .before .before .before .loop-test .taken
+  inside = d .before .loop-test .taken
 
   few : countIn ws ≤ mostWaiting
   few = start .pre .0 .few
 
-  times : c .times-listed .result ≡ listed (goalAt (listIn (start .args .shop .now) (start .args .order .now) ws) at) (goalAt (listIn (start .args .shop .now) (start .args .order .now) ws) p)
-  times =
-      c .times-listed .ensures
-      ∙ ap₂ {C = ℕ} listed
-      (ap (waitingOf (start .args .shop .now) (start .args .order .now)) (c .before .entry-at2 .ensures ∙ lowering-entry _ _ _ _ _ _ v at)
-      ∙ sym (list-at (start .args .shop .now) (start .args .order .now) ws at inside))
-      (ap (waitingOf (start .args .shop .now) (start .args .order .now)) (turn .before .before .before .entry-at .ensures)
-      ∙ sym (list-at (start .args .shop .now) (start .args .order .now) ws p (start .pre .1)))
+  abbrev list : List Waiting
+  list = listIn (start .args .shop .now) (start .args .order .now) ws
 
-  enough : c .times-listed .result ≤ pendingIn ws at
+  -- How often it is listed after the one at the place is not more than it counts.
+  enough : listed (goalAt list at) (goalAt list p) ≤ pendingIn ws at
   enough =
       omega (
         arith,
-        times,
         count-at ws at (omega (arith, inside, few)),
-        counted-enough (listIn (start .args .shop .now) (start .args .order .now) ws) p (omega (arith, list-length (start .args .shop .now) (start .args .order .now) ws, start .pre .1))
+        counted-enough list p (omega (arith, list-length (start .args .shop .now) (start .args .order .now) ws, start .pre .1))
             (countsIn ws) (start .pre .2) at (omega (arith, list-length (start .args .shop .now) (start .args .order .now) ws, inside)),
       )
 
-  -- The word that is made less is the goal's count.
-  pending-is : getD (turn .loop .goals) (c .before .before .before .start-of .result + pendingField) 0 ≡ pendingIn ws at
-  pending-is = ap (λ (k : ℕ). getD (turn .loop .goals) (k + pendingField) 0) (c .before .before .before .start-of .ensures) ∙ v .rest at (omega arith)
+  pending-is : getD (turn .loop .goals) (d .start-of .result + pendingField) 0 ≡ pendingIn ws at
+  pending-is = ap (λ (k : ℕ). getD (turn .loop .goals) (k + pendingField) 0) (d .start-of .ensures) ∙ v .rest at (omega arith)
+
+-- It has been asked how often it is listed after the one at the place.
+module _ (c : tie.After-times-listed Inv-loop μ-loop) where
+  abbrev found : tie.After-start-of Inv-loop μ-loop
+  found = c .before .before .before .before .before
+
+  abbrev first : tie.Start Inv-loop μ-loop
+  first = start found
+
+  times : c .times-listed .result ≡ listed (goalAt (list found) (at found)) (goalAt (list found) (p found))
+  times =
+      c .times-listed .ensures
+      ∙ ap₂ {C = ℕ} listed
+      (ap (waitingOf (first .args .shop .now) (first .args .order .now)) (c .before .entry-at2 .ensures ∙ lowering-entry _ _ _ _ _ _ (v found) (at found))
+      ∙ sym (list-at (first .args .shop .now) (first .args .order .now) (ws found) (at found) (inside found)))
+      (ap (waitingOf (first .args .shop .now) (first .args .order .now)) (turn found .before .before .before .entry-at .ensures)
+      ∙ sym (list-at (first .args .shop .now) (first .args .order .now) (ws found) (p found) (first .pre .1)))
 
 pub lower-counts-spec : {M : Type 1} → statement M
 lower-counts-spec =
@@ -83,36 +93,45 @@ lower-counts-spec =
     (λ c. search needs)
     -- loop-holds
     (λ c p e. lowering-start _ _ _ _ e)
+    -- add-at-2
+    (λ c. search needs)
     -- start-of-requires
     (λ c κs. search needs)
     -- add-here
-    (λ c. let s = c .before .before .before .before .before .before .before .before .before in omega (arith, c .start-of .ensures, c .before .loop-test .taken, s .pre .0 .few))
+    (λ c. omega (arith, c .start-of .ensures, inside c, few c))
+    -- mul-pending
+    (λ c. omega (arith, c .start-of .ensures, inside c, few c))
+    -- element-copy-out-pending
+    (λ c. omega (arith, c .start-of .ensures, inside c, few c))
     -- entry-at-requires-2
-    (λ c κs. let s = c .before .before .before .before .before .before .before .before .before .before in omega (arith, c .before .before .loop-test .taken, s .pre .0 .few))
+    (λ c κs. let d = c .before .before .before in omega (arith, inside d, few d))
     -- times-listed-requires
     (λ c κs. search needs)
-    -- mul-less
-    (λ c. omega (arith, c .before .before .before .start-of .ensures, inside c, few c))
-    -- element-copy-out-less
-    (λ c. omega (arith, c .before .before .before .start-of .ensures, inside c, few c))
     -- less-requires
-    (λ c κs. omega (arith, enough (c .before), pending-is (c .before)))
+    (λ c κs. omega (arith, times c, enough (found c), pending-is (found c)))
     -- mul-goals
-    (λ c. let t = c .before .before in omega (arith, t .before .before .before .start-of .ensures, inside t, few t))
+    (λ c. let d = found (c .before) in omega (arith, d .start-of .ensures, inside d, few d))
     -- element-write-goals
-    (λ c. let t = c .before .before in omega (arith, t .before .before .before .start-of .ensures, inside t, few t))
-    -- add-at-2
-    (λ c. let t = c .before .before in omega (arith, inside t, few t))
+    (λ c. let d = found (c .before) in omega (arith, d .start-of .ensures, inside d, few d))
     -- loop-less
     (λ c. search needs)
     -- loop-again
     (λ c p e.
-    let t = c .before .before in
-    let v = turn t .loop .inv p e in
-    let z : start t .args .place .0 ≡ p = omega (arith, e) in
-    let now = listIn (start t .args .shop .now) (start t .args .order .now) (ws t) in
-    rw (c .less .ensures, t .before .before .before .start-of .ensures)
-    (lowering-more _ _ _ _ _ _ v (t .times-listed .result) _ refl (times t ∙ ap (λ (k : ℕ). listed (goalAt now (at t)) (goalAt now k)) z)
-    (enough t) (omega (arith, inside t, few t, start t .pre .0 .size))))
+    let t = c .before in
+    let d = found t in
+    let v = turn d .loop .inv p e in
+    let z : start d .args .place .0 ≡ p = omega (arith, e) in
+    rw (c .less .ensures, d .start-of .ensures)
+    (lowering-more _ _ _ _ _ _ v (t .times-listed .result) _ refl (times t ∙ ap (λ (k : ℕ). listed (goalAt (list d) (at d)) (goalAt (list d) k)) z)
+    (omega (arith, times t, enough d)) (omega (arith, inside d, few d, start d .pre .0 .size))))
+    -- loop-less-2
+    (λ c. search needs)
+    -- loop-again-2
+    (λ c p e.
+    let d = c .before .before in
+    let v = turn d .loop .inv p e in
+    let z : start d .args .place .0 ≡ p = omega (arith, e) in
+    let none : 0 ≡ listed (goalAt (list d) (at d)) (goalAt (list d) (start d .args .place .0)) = omega (arith, c .if1 .left, enough d, pending-is d) in
+    lowering-none _ _ _ _ _ _ v (none ∙ ap (λ (k : ℕ). listed (goalAt (list d) (at d)) (goalAt (list d) k)) z) (omega (arith, inside d, few d, start d .pre .0 .size)))
     -- returns
     (λ c. lowering-done _ _ _ _ _ _ (c .before .loop .inv _ refl) (c .loop-test .left)))
