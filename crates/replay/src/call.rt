@@ -9,7 +9,6 @@ use sheet_check::check::Trace;
 use sheet_check::rows::word;
 use sheet_index::index::Tables;
 use sheet_rows::refusal::Refusal;
-use state::atoms::State;
 ghost use mathlib.Core.Path.{_≡_};
 ghost use Prim.Native.Nat.{suc, _≤_, _+_};
 ghost use lib.ListN.{length, take, drop};
@@ -39,8 +38,8 @@ fn run_indexed<'a>(shop: &'a [u16], order: &'a [u16], trace: &[u16], tables: &mu
 {
     let mut goals = Goals::empty();
     first::begun(shop, order, tables, &mut goals.words);
-    let atoms = first::start(shop, order);
-    run::run(shop, order, trace, tables, State { atoms: atoms }, goals)
+    let mut atoms = first::start(shop, order);
+    run::run(shop, order, trace, tables, &mut atoms, &mut goals.words)
 }
 
 // The run of sheets that passed. The tables of their index have the largest sheet's size, since no size is known before.

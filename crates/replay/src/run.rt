@@ -3,6 +3,7 @@ use crate::answer::Answer;
 use network::goals;
 use network::goals::Goals;
 use network::waiting::Place;
+use sheet_check::check::Shop;
 use sheet_check::check::Trace;
 use sheet_check::rows::word;
 use sheet_check::sizes::TraceSizes;
@@ -53,23 +54,21 @@ impl Totals {
     }
 }
 
-// The steps of a trace from a state on, with the order's goals waiting.
+// The steps of a trace from a state on, with the order's goals waiting, taken where both stand. What they leave there is left free.
 pub fn run<'a>(
     shop: &'a [u16],
     order: &'a [u16],
     trace: &[u16],
     tables: &[u16],
-    first: State,
-    goals: Goals,
+    atoms: &mut [bool; Shop::MOST_ATOMS as usize],
+    waiting: &mut [u16; Goals::WORDS],
 ) -> Answer
-    requires { ⌜ Indexed (now shop) (now order) (now tables) × FirstGoals (now shop) (now order) (goals .words) ⌝ }
+    requires { ⌜ Indexed (now shop) (now order) (now tables) × FirstGoals (now shop) (now order) (now waiting) ⌝ }
     requires { ⌜ (1 + (stepCount (now trace) + stepCount (now trace)) ≤ length (now trace)) × (stepCount (now trace) ≤ mostSteps) ⌝ }
-    ensures { λ r. ⌜ answerOf r ≡ runAnswer (now (shop .entry)) (now (trace .entry)) (problemWith (now (shop .entry)) (now (order .entry)) (first .atoms) (goals .words)) ⌝ }
+    ensures { λ r. ⌜ answerOf r ≡ runAnswer (now (shop .entry)) (now (trace .entry)) (problemWith (now (shop .entry)) (now (order .entry)) (now (atoms .entry)) (now (waiting .entry))) ⌝ }
 {
     let sizes = TraceSizes::of(trace);
     let steps = sizes.steps as usize;
-    let mut atoms = first.atoms;
-    let mut waiting = goals.words;
     let mut totals = Totals { count: 0, cost: 0 };
     let mut i: usize = 0;
     while i < steps {
@@ -80,15 +79,7 @@ pub fn run<'a>(
             place: Place(word(trace, Trace::SIZES + steps + i)),
         };
         i += 1;
-        let decision = taking::take(
-            shop,
-            order,
-            tables,
-            &mut atoms,
-            &mut waiting,
-            step,
-            Goals::MOST,
-        );
+        let decision = taking::take(shop, order, tables, atoms, waiting, step, Goals::MOST);
         match decision {
             Decision::Refused(refusal) => {
                 return Answer::refused(refusal.at(number));
@@ -98,22 +89,23 @@ pub fn run<'a>(
             }
         }
     }
-    ended(
-        State { atoms: atoms },
-        goals::count_of(&waiting),
-        sizes.steps,
-        totals,
-    )
+    ended(atoms, goals::count_of(waiting), sizes.steps, totals)
 }
 
 // After the last step: nothing waiting? 33.
-fn ended(state: State, waiting: u16, steps: u16, totals: Totals) -> Answer
-    ensures { λ r. ⌜ answerOf r ≡ endAnswer steps (state .atoms) waiting (totals .count) (totals .cost) ⌝ }
+fn ended(
+    atoms: &[bool; Shop::MOST_ATOMS as usize],
+    waiting: u16,
+    steps: u16,
+    totals: Totals,
+) -> Answer
+    ensures { λ r. ⌜ answerOf r ≡ endAnswer steps (now (atoms .entry)) waiting (totals .count) (totals .cost) ⌝ }
 {
     if waiting == 0 {
+        let last = *atoms;
         return Answer {
             refusal: Refusal::none().at(steps),
-            state: state,
+            state: State { atoms: last },
             count: totals.count,
             cost: totals.cost,
         };

@@ -27,15 +27,15 @@ run-indexed-spec =
     order-of-trace (s .args .shop .now) (s .args .order .now) (s .args .trace .now) (s .pre .0))
     -- run-requires
     (λ c κs.
-    let b = c .before .before .before .before in
+    let b = c .before .before .before .before .before .before in
     let s = b .before .before .before .before .before .before .before .before in
     ((b .begun .ensures .0, b .begun .ensures .1), trace-sizes (s .args .shop .now) (s .args .order .now) (s .args .trace .now) (s .pre .0)))
     -- same-length
     (λ c. search needs)
     -- returns
     (λ c.
-    let b = c .before .before .before .before .before in
+    let b = c .before .before .before .before .before .before .before in
     let s = b .before .before .before .before .before .before .before .before in
     c .run .ensures
     ∙ ap₂ {C = Replay.Answer} (λ (st : State) (w : List Waiting). runAnswer (s .args .shop .now) (s .args .trace .now) (record { state = st; waiting = w }))
-    (c .before .before .start .ensures) (b .begun .ensures .1 .list)))
+    (c .before .before .before .before .start .ensures) (b .begun .ensures .1 .list)))

@@ -18,9 +18,9 @@ ended-spec =
     (λ c κs. search needs)
     -- returns
     (λ c.
-    let s = c .before .before .before in
-    rw (eq-eqb _ 0 (c .before .before .if1 .taken))
-    (ap (λ (q : Refusal). record { refusal = q; state = s .args .state .atoms; count = s .args .totals .count; cost = s .args .totals .cost })
+    let s = c .before .before .before .before in
+    rw (eq-eqb _ 0 (c .before .before .before .if1 .taken))
+    (ap (λ (q : Refusal). record { refusal = q; state = s .args .atoms .now; count = s .args .totals .count; cost = s .args .totals .cost })
     (c .at .ensures ∙ ap (placed (s .args .steps)) (c .before .none .ensures))))
     -- by-requires
     (λ c κs. search needs)

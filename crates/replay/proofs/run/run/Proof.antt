@@ -24,12 +24,12 @@ use Rattle.replay.proofs.run.run.Statement.{statement}
 use Rattle.replay.proofs.run.run.Tie as tie
 
 abbrev Inv-loop : tie.InvT-loop
-Inv-loop shop order trace tables sizes steps atoms₀ waiting₀ totals₀ i₀ atoms waiting totals i =
+Inv-loop shop order trace tables atoms₀ waiting₀ sizes steps totals₀ i₀ atoms waiting totals i =
     Running (rulesOf shop) (stepsOf trace) (problemWith shop order atoms₀ waiting₀) i (problemWith shop order atoms waiting) (totals .count) (totals .cost)
     × Going shop order i atoms waiting × (steps ≡ stepCount trace)
 
 abbrev μ-loop : tie.MeasureT-loop
-μ-loop shop order trace tables sizes steps atoms₀ waiting₀ totals₀ i₀ atoms waiting totals i = steps - i
+μ-loop shop order trace tables atoms₀ waiting₀ sizes steps totals₀ i₀ atoms waiting totals i = steps - i
 
 -- Where a step was tried.
 module _ (v : tie.After-take Inv-loop μ-loop) where
@@ -37,7 +37,7 @@ module _ (v : tie.After-take Inv-loop μ-loop) where
   here = v .before .before .before .before .before .before
 
   abbrev start : tie.Start Inv-loop μ-loop
-  start = here .before .before .before .before .before .before .before .before .before
+  start = here .before .before .before .before .before .before .before
 
   abbrev shop : List ℕ
   shop = start .args .shop .now
@@ -58,7 +58,7 @@ module _ (v : tie.After-take Inv-loop μ-loop) where
   i = here .loop .i
 
   abbrev P₀ : Problem
-  P₀ = problemWith shop order (start .args .first .atoms) (start .args .goals .words)
+  P₀ = problemWith shop order (start .args .atoms .now) (start .args .waiting .now)
 
   abbrev move : ℕ
   move = v .before .before .before .before .word .result
@@ -100,8 +100,8 @@ run-spec =
     (λ c. search needs)
     -- loop-holds
     (λ c.
-    let p = c .before .before .before .before .before .before .before .before .pre in
-    (running-start _ _ _, going-first _ (p .0 .1), c .before .before .before .of .ensures .steps))
+    let p = c .before .before .before .before .before .before .pre in
+    (running-start _ _ _, going-first _ (p .0 .1), c .before .of .ensures .steps))
     -- cast-number
     (λ c. search needs)
     -- add-word
@@ -119,7 +119,7 @@ run-spec =
     -- take-requires
     (λ c κs.
     let l = c .before .before .before .before .before in
-    let p = l .before .before .before .before .before .before .before .before .before .pre in
+    let p = l .before .before .before .before .before .before .before .pre in
     ((p .0 .0, l .loop .inv .1, omega (arith, l .loop .inv .2, c .before .before .before .before .loop-test .taken, p .1 .1)), omega arith))
     -- enum-known-decision
     (λ c. search needs)
@@ -162,9 +162,9 @@ run-spec =
     (λ c κs. search needs)
     -- returns-2
     (λ c.
-    let l = c .before .before .before .before in
-    let s = l .before .before .before .before .before .before .before .before .before in
-    let steps = l .before .before .before .before .of .ensures .steps in
+    let l = c .before .before .before .before .before in
+    let s = l .before .before .before .before .before .before .before in
+    let steps = l .before .before .of .ensures .steps in
     c .ended .ensures
     ∙ rw (steps, c .before .count-of .ensures, ← list-length (s .args .shop .now) (s .args .order .now) (l .loop .waiting))
-    (run-ended (s .args .shop .now) (s .args .trace .now) (s .pre .1 .0) _ (l .loop .i) _ _ _ (l .loop .inv .0) (omega (arith, c .before .before .before .loop-test .left, l .loop .inv .2)))))
+    (run-ended (s .args .shop .now) (s .args .trace .now) (s .pre .1 .0) _ (l .loop .i) _ _ _ (l .loop .inv .0) (omega (arith, c .before .before .before .before .loop-test .left, l .loop .inv .2)))))
