@@ -2,6 +2,15 @@
 
 use std::fmt;
 
+/// One bit for each of eight bytes, the lowest first: 0 when the byte is 0.
+fn bits_of(bytes: u64) -> u64 {
+    const LOW_SEVEN: u64 = 0x7f7f_7f7f_7f7f_7f7f;
+    // The sum carries into a byte's top bit unless its low seven are all 0.
+    let top = (((bytes & LOW_SEVEN) + LOW_SEVEN) | bytes) & !LOW_SEVEN;
+    // The product gathers the eight bits in its top byte.
+    (top >> 7).wrapping_mul(0x0102_0408_1020_4080) >> 56
+}
+
 /// The set of atoms that are true.
 #[derive(Clone, Copy, PartialEq, Eq)]
 pub struct State {
@@ -13,8 +22,9 @@ impl State {
     pub(crate) fn from_bytes(bytes: &[u8; 256]) -> State {
         let mut bits = [0; 4];
         for (word, bytes) in bits.iter_mut().zip(bytes.chunks_exact(64)) {
-            for (bit, byte) in bytes.iter().enumerate() {
-                *word |= u64::from(*byte != 0) << bit;
+            for (eighth, bytes) in bytes.chunks_exact(8).enumerate() {
+                let bytes = bytes.try_into().expect("eight bytes");
+                *word |= bits_of(u64::from_le_bytes(bytes)) << (8 * eighth);
             }
         }
         State { bits }
@@ -103,6 +113,19 @@ mod tests {
         assert!(state.contains(200) && !state.contains(201));
         assert!(!state.contains(256) && !state.contains(u16::MAX));
         assert_eq!(format!("{state:?}"), "{0, 63, 64, 200, 255}");
+    }
+
+    #[test]
+    fn any_byte_but_0_is_true() {
+        for atom in 0..256 {
+            for byte in [1, 2, 0x7f, 0x80, 0xff] {
+                let mut bytes = [0; 256];
+                bytes[atom] = byte;
+                let state = State::from_bytes(&bytes);
+                assert_eq!(state.iter().collect::<Vec<_>>(), [atom as u16]);
+            }
+        }
+        assert_eq!(State::from_bytes(&[0x80; 256]).len(), 256);
     }
 
     #[test]
