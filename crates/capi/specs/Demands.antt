@@ -7,14 +7,14 @@ use mathlib.Core.Path.{_≡_}
 use mathlib.Core.List.{List, map}
 use lib.Dec.{eqb}
 use lib.ListN.{getD}
-use Rattle.hgn.specs.Questions.{Refusal, told}
+use Rattle.hgn.specs.Questions.{Refusal, answered}
 use Rattle.hgn.specs.Shop.{checkShop}
 use Rattle.hgn.specs.Order.{checkOrder}
 use Rattle.hgn.specs.Trace.{checkTrace}
 use Rattle.hgn.specs.Replay.{Replayed, replay}
 use Rattle.hgn.specs.Search.{Searched, search}
 use Rattle.hgn.specs.Demands.{ShopCheckAnswers, OrderCheckAnswers, TraceCheckAnswers, ReplayAnswers, SearchAnswers}
-use Rattle.hgn.specs.Demands.{InputsPass, IsDefinition1, Call, IsFirstOfShortest, SearchAndReplay}
+use Rattle.hgn.specs.Demands.{InputsPass, IsDefinition1, ReplayCall, IsFirstOfShortest, SearchAndReplay}
 use Rattle.hgn.specs.Demands as Demands
 use Rattle.capi.specs.Words.{refusalWords, ReplayLeft, SearchLeft}
 
@@ -38,7 +38,7 @@ pub record OfReplay (shop sheet trace room plan answer atoms : List ℕ) : Type 
   pub demand-1 : ReplayAnswers shop sheet trace room (replayedIn plan answer atoms)
   pub demand-2 : IsDefinition1 shop sheet trace room (replayedIn plan answer atoms)
   pub is-call : InputsPass shop sheet trace room
-      → (k : Call shop sheet trace) × (k .result ≡ replayedIn plan answer atoms) × (k .room ≡ room)
+      → (k : ReplayCall shop sheet trace) × (k .result ≡ replayedIn plan answer atoms) × (k .room ≡ room)
 
 -- What a caller of the search may rely on.
 pub record OfSearch (shop sheet : List ℕ) (depth : ℕ) (room left answer : List ℕ) : Type 0 where
@@ -48,10 +48,10 @@ pub record OfSearch (shop sheet : List ℕ) (depth : ℕ) (room left answer : Li
   pub agrees-with-replay : SearchAndReplay shop sheet depth room (searchedIn left answer)
 
 pub record Promised : Type 1 where
-  pub hgn-check-shop : (shop answer : List ℕ) → answer ≡ refusalWords (told (checkShop shop)) → ShopCheckAnswers shop (refusalIn answer)
-  pub hgn-check-order : (shop sheet answer : List ℕ) → answer ≡ refusalWords (told (checkOrder shop sheet))
+  pub hgn-check-shop : (shop answer : List ℕ) → answer ≡ refusalWords (answered (checkShop shop)) → ShopCheckAnswers shop (refusalIn answer)
+  pub hgn-check-order : (shop sheet answer : List ℕ) → answer ≡ refusalWords (answered (checkOrder shop sheet))
       → OrderCheckAnswers shop sheet (refusalIn answer)
-  pub hgn-check-trace : (shop sheet trace answer : List ℕ) → answer ≡ refusalWords (told (checkTrace shop sheet trace))
+  pub hgn-check-trace : (shop sheet trace answer : List ℕ) → answer ≡ refusalWords (answered (checkTrace shop sheet trace))
       → TraceCheckAnswers shop sheet trace (refusalIn answer)
   pub hgn-replay : (shop sheet trace room plan answer atoms : List ℕ) → ReplayLeft (replay shop sheet trace room) plan answer atoms
       → OfReplay shop sheet trace room plan answer atoms

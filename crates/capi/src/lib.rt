@@ -10,7 +10,7 @@ ghost use Rattle.hgn.specs.Order.{checkOrder};
 ghost use Rattle.hgn.specs.Trace.{checkTrace};
 ghost use Rattle.hgn.specs.Replay as Replay;
 ghost use Rattle.hgn.specs.Search as Search;
-ghost use Rattle.hgn.specs.Questions.{told};
+ghost use Rattle.hgn.specs.Questions.{answered};
 ghost use Rattle.capi.specs.Words.{refusalWords, stateBytes, ReplayLeft, SearchLeft};
 
 // A state's atoms as bytes: 1 for an atom that is in, 0 for one that is not.
@@ -29,7 +29,7 @@ fn bytes_of(atoms: [bool; Shop::MOST_ATOMS as usize]) -> [u8; Shop::MOST_ATOMS a
 // Questions 1 to 9.
 #[no_mangle]
 pub extern "C" fn hgn_check_shop(shop: &[u16], answer: &mut [u32; 2])
-    ensures { λ _. ⌜ now (answer .exit) ≡ refusalWords (told (checkShop (now (shop .entry)))) ⌝ }
+    ensures { λ _. ⌜ now (answer .exit) ≡ refusalWords (answered (checkShop (now (shop .entry)))) ⌝ }
 {
     let shop_refusal = check::check_shop(shop);
     *answer = [shop_refusal.number as u32, shop_refusal.place as u32];
@@ -38,7 +38,7 @@ pub extern "C" fn hgn_check_shop(shop: &[u16], answer: &mut [u32; 2])
 // Questions 1 to 9, then 11 to 18.
 #[no_mangle]
 pub extern "C" fn hgn_check_order(shop: &[u16], order: &[u16], answer: &mut [u32; 2])
-    ensures { λ _. ⌜ now (answer .exit) ≡ refusalWords (told (checkOrder (now (shop .entry)) (now (order .entry)))) ⌝ }
+    ensures { λ _. ⌜ now (answer .exit) ≡ refusalWords (answered (checkOrder (now (shop .entry)) (now (order .entry)))) ⌝ }
 {
     let order_refusal = check::check_order(shop, order);
     *answer = [order_refusal.number as u32, order_refusal.place as u32];
@@ -47,7 +47,7 @@ pub extern "C" fn hgn_check_order(shop: &[u16], order: &[u16], answer: &mut [u32
 // Questions 1 to 9 and 11 to 18, then 21 to 23.
 #[no_mangle]
 pub extern "C" fn hgn_check_trace(shop: &[u16], order: &[u16], trace: &[u16], answer: &mut [u32; 2])
-    ensures { λ _. ⌜ now (answer .exit) ≡ refusalWords (told (checkTrace (now (shop .entry)) (now (order .entry)) (now (trace .entry)))) ⌝ }
+    ensures { λ _. ⌜ now (answer .exit) ≡ refusalWords (answered (checkTrace (now (shop .entry)) (now (order .entry)) (now (trace .entry)))) ⌝ }
 {
     let trace_refusal = check::check_trace(shop, order, trace);
     *answer = [trace_refusal.number as u32, trace_refusal.place as u32];

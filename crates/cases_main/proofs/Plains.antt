@@ -10,7 +10,7 @@ use lib.ListN.{length, getD, drop, drop-of-length-le}
 use lib.Seq.{drop-cons}
 use types.Run.{OneOf}
 use borrow.Author.Tests.{le-leb, lt-leb, ne-eqb}
-use Rattle.hgn.specs.Lists.{any, all, among}
+use Rattle.hgn.specs.Lists.{any, all, elem}
 use Rattle.cases_main.specs.Plain.{marks, within, plainByte}
 
 module _ (b : ℕ) where
@@ -26,8 +26,8 @@ module _ (b : ℕ) where
   unfolding within
   over least most l h = rw (le-leb least b l, lt-leb b most h)
 
-  unmarked : (OneOf marks b → ⊥) → among b marks ≡ false
-  unfolding among any
+  unmarked : (OneOf marks b → ⊥) → elem b marks ≡ false
+  unfolding elem any
   unmarked h =
       rw (
         ne-eqb b 32 (λ e. h (inl e)),
@@ -38,7 +38,7 @@ module _ (b : ℕ) where
 
   -- The bytes of `is_plain_byte`, arm by arm.
   pub marked-plain : OneOf marks b → true ≡ plainByte b
-  unfolding plainByte among any
+  unfolding plainByte elem any
   marked-plain (inl e) = rw e
   marked-plain (inr (inl e)) = rw e
   marked-plain (inr (inr (inl e))) = rw e

@@ -10,7 +10,7 @@ use lib.Dec.{eqb}
 use lib.ListN.{length, getD, take, drop, length-drop, drop-of-length-le}
 use lib.Seq.{take-all, take-length, take-suc, drop-cons, getD-take}
 use borrow.Author.Tests.{eq-eqb, ne-eqb}
-use Rattle.hgn.specs.Lists.{upTo}
+use Rattle.hgn.specs.Lists.{takeUntil}
 
 -- A part that is as long as what is left behind a place is all of that.
 pub whole-rest : (text : List ℕ) (n : ℕ) → take (length text - n) (drop n text) ≡ drop n text
@@ -68,18 +68,18 @@ module _ (text word : List ℕ) where
 module _ (text : List ℕ) (byte : ℕ) where
   -- The first place behind this one at which the byte stands, or the text's length.
   abbrev pub next : ℕ → ℕ
-  next at = at + 1 + length (upTo (eqb byte) (drop (at + 1) text))
+  next at = at + 1 + length (takeUntil (eqb byte) (drop (at + 1) text))
 
   next-here : (at : ℕ) → at + 1 < length text → getD text (at + 1) 0 ≡ byte → next at ≡ at + 1
-  unfolding upTo
+  unfolding takeUntil
   next-here at h e = rw (drop-cons text (at + 1) 0 h, eq-eqb byte _ (sym e)) (omega arith)
 
   next-on : (at : ℕ) → at + 1 < length text → (getD text (at + 1) 0 ≡ byte → ⊥) → next at ≡ next (at + 1)
-  unfolding upTo
+  unfolding takeUntil
   next-on at h other = rw (drop-cons text (at + 1) 0 h, ne-eqb byte _ (λ e. other (sym e)), add-one (at + 1)) (omega arith)
 
   next-end : (at : ℕ) → length text ≤ at + 1 → next at ≡ at + 1
-  unfolding upTo
+  unfolding takeUntil
   next-end at h = rw (drop-of-length-le text h) (omega arith)
 
   -- A search from `from` on has come to the place `at`: what it looks for stands behind that, and past the text's end it is that.

@@ -3,7 +3,7 @@ use Prim.Native.Nat.{ℕ}
 use mathlib.Core.Bool.{Bool, _&&_, _||_}
 use mathlib.Core.List.{List, [], _∷_}
 use lib.Dec.{leb}
-use Rattle.hgn.specs.Lists.{among}
+use Rattle.hgn.specs.Lists.{elem}
 
 -- Blank, comma, `n` and the bar.
 abbrev pub marks : List ℕ
@@ -14,4 +14,4 @@ within least most b = leb least b && leb b most
 
 -- One of the marks, a bracket, or a digit.
 unfoldable pub plainByte : ℕ → Bool
-plainByte b = among b marks || (within 40 41 b || within 48 57 b)
+plainByte b = elem b marks || (within 40 41 b || within 48 57 b)

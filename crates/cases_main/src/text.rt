@@ -6,11 +6,11 @@ ghost use mathlib.Core.Logic.{_↔_};
 ghost use Prim.Native.Nat.{_+_, _<_};
 ghost use lib.Dec.{eqb};
 ghost use lib.ListN.{length, take, drop};
-ghost use Rattle.hgn.specs.Lists.{upTo};
+ghost use Rattle.hgn.specs.Lists.{takeUntil};
 
 // Where a byte stands after `from`, a place of the text, or the text's length where it stands at none.
 pub fn find(text: &[u8], from: usize, byte: u8) -> usize
-    ensures { λ r. ⌜ (from < length (now (text .entry)) → r ≡ from + 1 + length (upTo (eqb byte) (drop (from + 1) (now (text .entry))))) ⌝ }
+    ensures { λ r. ⌜ (from < length (now (text .entry)) → r ≡ from + 1 + length (takeUntil (eqb byte) (drop (from + 1) (now (text .entry))))) ⌝ }
 {
     let mut at = from;
     while at < text.len() {

@@ -19,11 +19,11 @@ use Rattle.hgn.specs.Order.{order}
 use Rattle.hgn.specs.Trace.{stepCount, stepsOf}
 use Rattle.hgn.specs.Replay.{rulesOf, Replayed, refusal, acceptance, reported}
 use Rattle.hgn.specs.Readings.{Reached, first, next}
-use Rattle.hgn.proofs.Steps.{taken-deed, taken-passed, step-passed}
-use Rattle.hgn.proofs.Runs.{resumed, run-cons}
-use Rattle.hgn.proofs.Replayed.{inputs-passed, replay-passed}
-use Rattle.hgn.proofs.Reached.{one-more}
-use Rattle.hgn.proofs.Traces.{trace-sizes}
+use Rattle.hgn.proofs.Run.Steps.{taken-deed, taken-passed, step-passed}
+use Rattle.hgn.proofs.Run.Runs.{resumed, run-cons}
+use Rattle.hgn.proofs.Run.Replay.{inputs-passed, replay-passed}
+use Rattle.hgn.proofs.Network.Reached.{one-more}
+use Rattle.hgn.proofs.Sheets.Trace.{trace-sizes}
 use Rattle.sheet_index.proofs.Spans.{by-test}
 use Rattle.step.specs.Steps.{problemIn, Comes}
 use Rattle.step.specs.declared.problem.Problem.{Problem}
@@ -31,7 +31,7 @@ use Rattle.step.proofs.Taken.{going-taken, going-refused}
 use Rattle.replay.proofs.Totals.{steps-length}
 use Rattle.replay.proofs.TakenSteps.{going-first}
 use Rattle.display.specs.Forward.{steppedAt}
-use Rattle.display.specs.Stepping.{Call, Calls, onward, shownBy, leftBy, DisplayShowsReplay, DisplayGoesOn}
+use Rattle.display.specs.Stepping.{StepCall, Calls, onward, shownBy, leftBy, DisplayShowsReplay, DisplayGoesOn}
 
 -- Where the number is 0, what holds of both that follow holds of both that it leads to; at any other number that is all.
 both-on : {A B : Type 0} (Q : A → B → Type 0) (a : A) (b : B) (number : ℕ) (f : number ≡ 0 → A) (g : number ≡ 0 → B) → number ≡ 0
@@ -66,7 +66,7 @@ place-reported d steps room (accepted deeds s) = refl
 
 module _ (shop sheet : List ℕ) where
   -- What a call showed of a step that is refused, and of one that is taken.
-  module _ (n : ℕ) (b : Problem) (x : Step) (c : Call shop sheet n x b) where
+  module _ (n : ℕ) (b : Problem) (x : Step) (c : StepCall shop sheet n x b) where
     comes : (o : Stepped) → steppedAt shop sheet n x b ≡ o → Comes shop sheet o (record { refusal = c .answer; problem = c .after })
     comes o e = subst (λ (s : Stepped). Comes shop sheet s (record { refusal = c .answer; problem = c .after })) e (c .forward .comes-to)
 

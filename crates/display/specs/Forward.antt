@@ -16,4 +16,4 @@ steppedAt shop order n x b = stepped (rulesOf shop) n (problemIn shop order b) x
 -- refused, the whole record is as it was. What the words behind those of the last goal hold is free.
 abbrev pub Forward : List ℕ → List ℕ → ℕ → Step → Problem → Refusal → Problem → Type 0
 Forward shop order n x before answer after =
-    Steps.Is shop order (steppedAt shop order n x before) before (record { refusal = answer; problem = after })
+    Steps.IsStep shop order (steppedAt shop order n x before) before (record { refusal = answer; problem = after })

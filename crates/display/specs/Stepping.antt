@@ -23,7 +23,7 @@ use Rattle.step.specs.declared.problem.Problem.{Problem}
 use Rattle.display.specs.Forward.{Forward}
 
 -- A call of the display for step `x`, the trace's step number `n`, at the record that it holds.
-pub record Call (shop sheet : List ℕ) (n : ℕ) (x : Step) (before : Problem) : Type 0 where
+pub record StepCall (shop sheet : List ℕ) (n : ℕ) (x : Step) (before : Problem) : Type 0 where
   pub answer : Refusal
   pub after : Problem
   pub forward : Forward shop sheet n x before answer after
@@ -35,7 +35,7 @@ nextNumber n answer = cond (eqb answer 0) (n + 1) n
 -- A call for each step from step number `n` on, each at the record that the one before it left, up to the first that is refused.
 unfoldable pub Calls : List ℕ → List ℕ → ℕ → Problem → List Step → Type 0
 Calls shop sheet n b [] = Unit {0}
-Calls shop sheet n b (x ∷ xs) = (c : Call shop sheet n x b) × (c .answer .number ≡ 0 → Calls shop sheet (suc n) (c .after) xs)
+Calls shop sheet n b (x ∷ xs) = (c : StepCall shop sheet n x b) × (c .answer .number ≡ 0 → Calls shop sheet (suc n) (c .after) xs)
 
 -- Stepping goes on as `next` says where a step answers 0, and ends at any other number.
 unfoldable pub onward : {A : Type 0} → A → (number : ℕ) → (number ≡ 0 → A) → A
@@ -80,5 +80,5 @@ DisplayShowsReplay = (shop sheet trace room : List ℕ) (c : Replayed) → Input
 pub record DisplayGoesOn : Type 0 where
   pub begins : (shop sheet table : List ℕ) (b : Problem) → Prepared shop sheet table b
       → (problemIn shop sheet b ≡ problemOf (order sheet)) × Going shop sheet 0 (b .atoms) (b .waiting)
-  pub goes-on : (shop sheet : List ℕ) (n : ℕ) (x : Step) (b : Problem) (c : Call shop sheet n x b) → Going shop sheet n (b .atoms) (b .waiting)
+  pub goes-on : (shop sheet : List ℕ) (n : ℕ) (x : Step) (b : Problem) (c : StepCall shop sheet n x b) → Going shop sheet n (b .atoms) (b .waiting)
       → Going shop sheet (nextNumber n (c .answer .number)) (c .after .atoms) (c .after .waiting)

@@ -3,11 +3,11 @@ use mathlib.Core.Path.{refl}
 use mathlib.Core.List.{zipWith, flatten, headD}
 use Rattle.hgn.specs.Cases.{MarkedCases}
 use Rattle.hgn.specs.QuestionCases.{repeated, QuestionCases}
-use Rattle.hgn.specs.Lists.{any, all, keep, upTo, parts, among, below, from, firstSome}
+use Rattle.hgn.specs.Lists.{any, all, filter, takeUntil, splitAtEach, elem, range, firstSome}
 use Rattle.hgn.specs.Tag.{shopFollow, orderFollow, contextAfter, begins, leastHere, advance, inRange, rises}
 use Rattle.hgn.specs.Questions.{allAt, firstNo}
-use Rattle.hgn.specs.Rows.{rowsOf, valuesOf, rowQuestions, positionAfter}
-use Rattle.hgn.specs.Meaning.{literals, nodeOf, nodesOf, firstValue, actionOf, methodOf, headed, domainOf, orderOf, lastOf, goalOf, lastAfterAll, networkOf}
+use Rattle.hgn.specs.Rows.{rowsOf, valuesTagged, rowQuestions, positionAfter}
+use Rattle.hgn.specs.Meaning.{literals, nodeOf, nodesOf, firstValue, actionOf, methodOf, startsWith, domainOf, orderOf, lastOf, goalOf, lastAfterAll, networkOf}
 use Rattle.hgn.specs.State.{emptyState, assign, literalHolds, allHold, formulaHolds, atomsOf, γ, contains, relevant}
 use Rattle.hgn.specs.Network.{sameOrigin, sameName, isParent, comesAfter, free, anyFree, enter, goalsOf, released, decomposed}
 use Rattle.hgn.specs.Run as Run
@@ -18,8 +18,8 @@ use Rattle.hgn.specs.Search as Search
 use Rattle.hgn.specs.Replay.{refusal, acceptance, reported, inputQuestions, checkReplay, replay}
 
 pub marked-cases : MarkedCases
-unfolding any all keep upTo parts among below shopFollow orderFollow contextAfter begins leastHere advance inRange rises rowsOf valuesOf literals
-    nodeOf nodesOf firstValue actionOf methodOf headed domainOf orderOf lastOf goalOf lastAfterAll networkOf emptyState assign literalHolds allHold
+unfolding any all filter takeUntil splitAtEach elem range shopFollow orderFollow contextAfter begins leastHere advance inRange rises rowsOf valuesTagged literals
+    nodeOf nodesOf firstValue actionOf methodOf startsWith domainOf orderOf lastOf goalOf lastAfterAll networkOf emptyState assign literalHolds allHold
     formulaHolds atomsOf γ contains relevant sameOrigin sameName isParent comesAfter free anyFree enter goalsOf released decomposed Run.moveOf
     Run.known Run.moved Run.ownQuestions Run.stepQuestions Run.deedOf Run.stepped Run.prepend Run.endQuestions Run.ended Run.runBy Run.planOf
     Run.startOf Run.costOf allAt firstNo rowQuestions positionAfter Shop.shopRows Shop.domain Shop.sizesInRange Shop.nodeRules Shop.methodQuestions
@@ -28,13 +28,13 @@ unfolding any all keep upTo parts among below shopFollow orderFollow contextAfte
 marked-cases = refl
 
 pub question-cases : QuestionCases
-unfolding any all keep upTo parts among below shopFollow orderFollow contextAfter begins leastHere advance inRange rises rowsOf valuesOf literals
-    nodeOf nodesOf firstValue actionOf methodOf headed domainOf orderOf lastOf goalOf lastAfterAll networkOf emptyState assign literalHolds allHold
+unfolding any all filter takeUntil splitAtEach elem shopFollow orderFollow contextAfter begins leastHere advance inRange rises rowsOf valuesTagged literals
+    nodeOf nodesOf firstValue actionOf methodOf startsWith domainOf orderOf lastOf goalOf lastAfterAll networkOf emptyState assign literalHolds allHold
     formulaHolds atomsOf γ contains relevant sameOrigin sameName isParent comesAfter free anyFree enter goalsOf released decomposed Run.moveOf
     Run.known Run.moved Run.ownQuestions Run.stepQuestions Run.deedOf Run.stepped Run.prepend Run.endQuestions Run.ended Run.runBy Run.planOf
     Run.startOf Run.costOf allAt firstNo rowQuestions positionAfter Shop.shopRows Shop.domain Shop.sizesInRange Shop.nodeRules Shop.methodQuestions
     Shop.shopEndQuestions Shop.shopQuestions Order.orderRows Order.order Order.sizesInRange Order.orderEndQuestions Order.orderQuestions stepsOf
-    traceWords traceQuestions checkTrace refusal acceptance reported inputQuestions checkReplay replay zipWith flatten headD from firstSome
+    traceWords traceQuestions checkTrace refusal acceptance reported inputQuestions checkReplay replay zipWith flatten headD range firstSome
     Search.movesOf Search.stepsAt Search.candidates Search.noSteps Search.firstOf Search.firstShortest Search.isFound Search.stepsFound
     Search.searched Search.noTrace Search.written Search.searchQuestions Search.search Shop.checkShop Order.checkOrder repeated
 question-cases = record { sheets = refl; follows-in-shop = refl; follows-in-order = refl; steps = refl; searches = refl }

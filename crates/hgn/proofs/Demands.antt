@@ -2,22 +2,22 @@
 use mathlib.Core.Path.{refl}
 use Rattle.hgn.specs.Demands.{Promised}
 use Rattle.hgn.specs.Readings.{Read}
-use Rattle.hgn.proofs.Answered.{demand-1}
-use Rattle.hgn.proofs.Replayed.{demand-2}
-use Rattle.hgn.proofs.Searches.{demand-2-of-search, search-agrees-with-replay}
-use Rattle.hgn.proofs.Cuts.{demand-3}
-use Rattle.hgn.proofs.Replays.{demand-3-of-replays}
-use Rattle.hgn.proofs.WrittenSheets.{sheets-are-written}
-use Rattle.hgn.proofs.Derivations.{accepted-is-derivation}
-use Rattle.hgn.proofs.InOrder.{questions-in-order}
-use Rattle.hgn.proofs.Joins.{first-before-second, joins-are-01s, goals-after-listed}
-use Rattle.hgn.proofs.Orders.{networks-are-000s}
-use Rattle.hgn.proofs.Places.{places-are-01s}
-use Rattle.hgn.proofs.Checked.{methods-end-in-goals}
-use Rattle.hgn.proofs.Effects.{effects-are-gamma, states-are-sets}
-use Rattle.hgn.proofs.Entailment.{relevance-is-000s, rules-are-000s}
-use Rattle.hgn.proofs.Costs.{costs-are-sums}
-use Rattle.hgn.proofs.Best.{earlier-is-01s}
+use Rattle.hgn.proofs.Questions.Answers.{demand-1}
+use Rattle.hgn.proofs.Run.Replay.{demand-2}
+use Rattle.hgn.proofs.Search.Search.{demand-2-of-search, search-agrees-with-replay}
+use Rattle.hgn.proofs.Join.Cut.{demand-3}
+use Rattle.hgn.proofs.Join.Replays.{demand-3-of-replays}
+use Rattle.hgn.proofs.Sheets.Written.{sheets-are-written}
+use Rattle.hgn.proofs.Run.Derivation.{accepted-is-derivation}
+use Rattle.hgn.proofs.Questions.Order.{questions-in-order}
+use Rattle.hgn.proofs.Join.Goals.{first-before-second, joins-are-01s, goals-after-listed}
+use Rattle.hgn.proofs.Network.Precedes.{networks-are-000s}
+use Rattle.hgn.proofs.Network.Places.{places-are-01s}
+use Rattle.hgn.proofs.Sheets.Checked.{methods-end-in-goals}
+use Rattle.hgn.proofs.Run.Effects.{effects-are-gamma, states-are-sets}
+use Rattle.hgn.proofs.Run.Relevance.{relevance-is-000s, rules-are-000s}
+use Rattle.hgn.proofs.Run.Costs.{costs-are-sums}
+use Rattle.hgn.proofs.Search.Best.{earlier-is-01s}
 
 pub promised : Promised
 promised = record {

@@ -7,17 +7,17 @@ use lib.ListN.{length}
 use Rattle.hgn.specs.Lists.{At}
 use Rattle.hgn.specs.Meaning.{Action, Method, networkOf}
 use Rattle.hgn.specs.State.{State, EntailsAll, Satisfies, γ}
-use Rattle.hgn.specs.Network.{Waiting, step, released, decomposed}
+use Rattle.hgn.specs.Network.{Waiting, from-step, released, decomposed}
 use Rattle.hgn.specs.Run.{Step, firstMethod, Problem, Rules}
 
--- The listed pairs: `p` before `q` of one network, by an 11 row of `q` or by rule; or because `p` came with a method used at `q`.
-pub data Listed (p q : Waiting) : Type 0 where
-  by-row : p .name .origin ≡ q .name .origin → List·Memᴰ (p .name .number) (q .after) → Listed p q
-  by-method : p .parent ≡ some (q .name) → Listed p q
+-- The listed pairs: `q` comes after `p` of its network, by an 11 row or by rule; or because `p` came with a method used at `q`.
+pub data ComesAfter (q p : Waiting) : Type 0 where
+  by-row : p .name .origin ≡ q .name .origin → List·Memᴰ (p .name .number) (q .after) → ComesAfter q p
+  by-method : p .parent ≡ some (q .name) → ComesAfter q p
 
 -- The partial order ≺ of the goal network: the transitive closure of the listed pairs between waiting goals.
 pub data Precedes (w : List Waiting) : Waiting → Waiting → Type 0 where
-  listed : {p q : Waiting} → List·Memᴰ p w → List·Memᴰ q w → Listed p q → Precedes w p q
+  listed : {p q : Waiting} → List·Memᴰ p w → List·Memᴰ q w → ComesAfter q p → Precedes w p q
   through : {p q r : Waiting} → Precedes w p q → Precedes w q r → Precedes w p r
 
 -- "having no predecessors"
@@ -54,5 +54,5 @@ pub data Derivation (r : Rules) : ℕ → Problem → List Step → List ℕ →
   decomposition : {n : ℕ} {P : Problem} {last : State} {xs : List Step} {plan : List ℕ} {t : Waiting} {p : ℕ} {m : Method} {k : ℕ}
       → Stands r P p t
       → At (r .domain .methods) k m → EntailsAll (P .state) (m .needs) → r .MayUse m (t .formula)
-      → Derivation r (suc n) (record { state = P .state; waiting = decomposed (P .waiting) p (step n) (networkOf m) }) xs plan last
+      → Derivation r (suc n) (record { state = P .state; waiting = decomposed (P .waiting) p (from-step n) (networkOf m) }) xs plan last
       → Derivation r n P (record { move = firstMethod + k; place = p } ∷ xs) plan last

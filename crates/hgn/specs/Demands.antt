@@ -7,7 +7,7 @@ use mathlib.Core.Path.{_≡_}
 use mathlib.Core.Logic.{_↔_, _≢_}
 use mathlib.Core.List.{List, _++_}
 use lib.ListN.{length, take, drop}
-use Rattle.hgn.specs.Questions.{Refusal, Question, passed, told, FirstNo, AllYes}
+use Rattle.hgn.specs.Questions.{Refusal, Question, passed, answered, FirstNo, AllYes}
 use Rattle.hgn.specs.Meaning.{Order}
 use Rattle.hgn.specs.Rows.{mostRows}
 use Rattle.hgn.specs.State.{State, mostAtoms, emptyState}
@@ -60,9 +60,9 @@ abbrev pub SearchAnswers : List ℕ → List ℕ → ℕ → List ℕ → Search
 SearchAnswers shop sheet depth room c = AnswersFirst (searchQuestions shop sheet depth room) (c .refusal) (c .room ≡ room)
 
 pub record Demand1 : Type 0 where
-  pub of-shop-check : (shop : List ℕ) (a : Refusal) → a ≡ told (checkShop shop) → ShopCheckAnswers shop a
-  pub of-order-check : (shop sheet : List ℕ) (a : Refusal) → a ≡ told (checkOrder shop sheet) → OrderCheckAnswers shop sheet a
-  pub of-trace-check : (shop sheet trace : List ℕ) (a : Refusal) → a ≡ told (checkTrace shop sheet trace)
+  pub of-shop-check : (shop : List ℕ) (a : Refusal) → a ≡ answered (checkShop shop) → ShopCheckAnswers shop a
+  pub of-order-check : (shop sheet : List ℕ) (a : Refusal) → a ≡ answered (checkOrder shop sheet) → OrderCheckAnswers shop sheet a
+  pub of-trace-check : (shop sheet trace : List ℕ) (a : Refusal) → a ≡ answered (checkTrace shop sheet trace)
       → TraceCheckAnswers shop sheet trace a
   pub of-replay : (shop sheet trace room : List ℕ) (c : Replayed) → c ≡ replay shop sheet trace room
       → ReplayAnswers shop sheet trace room c
@@ -190,25 +190,25 @@ Demand3 = (shop first second : List ℕ) → checkOrder shop first ≡ passed �
 -- and states, asks for no sheet, and `accepted-cut` for none of the back.
 
 -- A replay of sheets that pass, with room enough.
-pub record Call (shop sheet trace : List ℕ) : Type 0 where
+pub record ReplayCall (shop sheet trace : List ℕ) : Type 0 where
   pub room : List ℕ
   pub result : Replayed
   pub inputs : InputsPass shop sheet trace room
   pub called : result ≡ replay shop sheet trace room
 
 -- The call accepts.
-abbrev pub Accepting : {shop sheet trace : List ℕ} → Call shop sheet trace → Type 0
+abbrev pub Accepting : {shop sheet trace : List ℕ} → ReplayCall shop sheet trace → Type 0
 Accepting k = k .result .answer .refusal .number ≡ 0
 
 -- The plan of a call that accepts: the first words of the room at exit.
-abbrev pub planIn : {shop sheet trace : List ℕ} → Call shop sheet trace → List ℕ
+abbrev pub planIn : {shop sheet trace : List ℕ} → ReplayCall shop sheet trace → List ℕ
 planIn k = take (k .result .answer .count) (k .result .room)
 
 -- The replay on the join, with the whole trace.
 pub record Whole (shop first second trace : List ℕ) : Type 0 where
   pub joined : List ℕ
   pub means : order joined ≡ join (order first) (order second)
-  pub call : Call shop joined trace
+  pub call : ReplayCall shop joined trace
 
 -- The replays of the two parts at cut `c`: the front is the first `c` steps, the back the others. The back's order has the second's goals,
 -- and starts from the state that an accepted front leaves.
@@ -216,13 +216,13 @@ pub record Parts (shop first second trace : List ℕ) (c : ℕ) : Type 0 where
   pub inside : c ≤ stepCount trace
   pub frontTrace : List ℕ
   pub frontSteps : stepsOf frontTrace ≡ take c (stepsOf trace)
-  pub front : Call shop first frontTrace
+  pub front : ReplayCall shop first frontTrace
   pub backOrder : List ℕ
   pub backGoals : order backOrder .goals ≡ order second .goals
   pub backStart : Accepting front → startOf (order backOrder) ≡ front .result .answer .state
   pub backTrace : List ℕ
   pub backSteps : stepsOf backTrace ≡ drop c (stepsOf trace)
-  pub back : Call shop backOrder backTrace
+  pub back : ReplayCall shop backOrder backTrace
 
 -- In the run of these steps from a problem, those waiting and `others` more are within the limit at its start and after every step of it.
 abbrev pub Counted : ℕ → Rules → Problem → List Step → Type 0

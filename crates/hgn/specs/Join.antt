@@ -4,14 +4,14 @@ use Prim.Native.Nat.{ℕ, _+_, _-_, _≤_}
 use mathlib.Core.Path.{_≡_}
 use mathlib.Core.List.{List, _++_, map}
 use lib.ListN.{length, take, drop}
-use Rattle.hgn.specs.Lists.{below}
+use Rattle.hgn.specs.Lists.{range}
 use Rattle.hgn.specs.Meaning.{Order, Node}
 use Rattle.hgn.specs.State.{State}
 use Rattle.hgn.specs.Run.{Step, Problem, problemFrom, problemOf, Rules, limited, Deed, planOf, run, accepted}
 
 -- The 11 rows of a goal of the second order: 0 to `g` less 1 of the first, then its own raised by `g`.
 unfoldable pub raised : ℕ → Node → Node
-raised g n = record { after = below g ++ map (λ k. g + k) (n .after); formula = n .formula }
+raised g n = record { after = range 0 g ++ map (λ k. g + k) (n .after); formula = n .formula }
 
 -- The first's start rows, the first's goals with their rows, then the second's goals in listed order.
 -- The second's start rows are dropped.

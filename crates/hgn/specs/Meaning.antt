@@ -3,8 +3,8 @@
 use Prim.Native.Nat.{ℕ, suc}
 use mathlib.Core.Bool.{Bool, true, false, cond, _||_}
 use mathlib.Core.List.{List, [], _∷_, map, headD}
-use Rattle.hgn.specs.Lists.{parts, keep, below}
-use Rattle.hgn.specs.Rows.{Row, has, valuesOf}
+use Rattle.hgn.specs.Lists.{splitAtEach, filter, range}
+use Rattle.hgn.specs.Rows.{Row, has, valuesTagged}
 use Rattle.hgn.specs.Tag
 
 pub record Literal : Type 0 where
@@ -49,15 +49,15 @@ literals t f (r ∷ rs) =
 
 -- A node's rows: its 7, its 11 rows, then its alternatives, each from its 8 on.
 unfoldable pub nodeOf : List Row → Node
-unfolding parts
+unfolding splitAtEach
 nodeOf rows = record {
-  after = valuesOf Tag.after rows;
-  formula = map (literals Tag.wantedTrue Tag.wantedFalse) (parts (has Tag.alternative) rows);
+  after = valuesTagged Tag.after rows;
+  formula = map (literals Tag.wantedTrue Tag.wantedFalse) (splitAtEach (has Tag.alternative) rows);
 }
 
 unfoldable pub nodesOf : List Row → List Node
-unfolding parts
-nodesOf rows = map nodeOf (parts (has Tag.node) rows)
+unfolding splitAtEach
+nodesOf rows = map nodeOf (splitAtEach (has Tag.node) rows)
 
 -- The value of the first row: of an action, its cost.
 unfoldable pub firstValue : List Row → ℕ
@@ -78,22 +78,22 @@ methodOf rows = record {
 }
 
 -- The row begins an action or a method.
-abbrev pub opens : Row → Bool
-opens r = has Tag.action r || has Tag.method r
+abbrev pub beginsOperator : Row → Bool
+beginsOperator r = has Tag.action r || has Tag.method r
 
 -- The first of these rows has the tag, so they are those of an action or of a method.
-unfoldable pub headed : ℕ → List Row → Bool
-headed t [] = false
-headed t (r ∷ rs) = has t r
+unfoldable pub startsWith : ℕ → List Row → Bool
+startsWith t [] = false
+startsWith t (r ∷ rs) = has t r
 
 unfoldable pub domainOf : List Row → Domain
 domainOf rows = record {
-  actions = map actionOf (keep (headed Tag.action) (parts opens rows));
-  methods = map methodOf (keep (headed Tag.method) (parts opens rows));
+  actions = map actionOf (filter (startsWith Tag.action) (splitAtEach beginsOperator rows));
+  methods = map methodOf (filter (startsWith Tag.method) (splitAtEach beginsOperator rows));
 }
 
 unfoldable pub orderOf : List Row → Order
-orderOf rows = record { start = valuesOf Tag.trueAtStart rows; goals = nodesOf rows }
+orderOf rows = record { start = valuesTagged Tag.trueAtStart rows; goals = nodesOf rows }
 
 abbrev pub noNode : Node
 noNode = record { after = []; formula = [] }
@@ -112,7 +112,7 @@ goalOf m = headD (lastOf (m .nodes) .formula) []
 -- The last listed node comes after all the others by rule; `i` nodes stand before these.
 unfoldable pub lastAfterAll : ℕ → List Node → List Node
 lastAfterAll i [] = []
-lastAfterAll i (n ∷ []) = record { after = below i; formula = n .formula } ∷ []
+lastAfterAll i (n ∷ []) = record { after = range 0 i; formula = n .formula } ∷ []
 lastAfterAll i (n ∷ m ∷ ns) = n ∷ lastAfterAll (suc i) (m ∷ ns)
 
 -- network(m) of 000.

@@ -7,7 +7,7 @@ use mathlib.Core.List.{List, [], _∷_, _++_}
 use mathlib.Core.Option.{Option, none, some}
 use lib.Dec.{eqb}
 use lib.ListN.{take, drop, getD}
-use Rattle.hgn.specs.Lists.{any, among}
+use Rattle.hgn.specs.Lists.{any, elem}
 use Rattle.hgn.specs.Meaning.{Formula, Node, Order}
 
 -- The most goals that may wait.
@@ -16,8 +16,8 @@ mostWaiting = 64
 
 -- The network that a waiting goal came with: the order, or the method used at a step (from 0).
 pub data Origin : Type 0 where
-  order : Origin
-  step : ℕ → Origin
+  from-order : Origin
+  from-step : ℕ → Origin
 
 -- Node `number` of its network.
 pub record Name : Type 0 where
@@ -31,10 +31,10 @@ pub record Waiting : Type 0 where
   pub formula : Formula
 
 unfoldable pub sameOrigin : Origin → Origin → Bool
-sameOrigin order order = true
-sameOrigin order (step n) = false
-sameOrigin (step m) order = false
-sameOrigin (step m) (step n) = eqb m n
+sameOrigin from-order from-order = true
+sameOrigin from-order (from-step n) = false
+sameOrigin (from-step m) from-order = false
+sameOrigin (from-step m) (from-step n) = eqb m n
 
 unfoldable pub sameName : Name → Name → Bool
 sameName a b = sameOrigin (a .origin) (b .origin) && eqb (a .number) (b .number)
@@ -46,7 +46,7 @@ isParent a (some b) = sameName a b
 -- `q` comes after `p`: `p` is of `q`'s network and its number is among those that `q` is listed after, or `p` came with a method used at `q`.
 unfoldable pub comesAfter : Waiting → Waiting → Bool
 comesAfter q p =
-    sameOrigin (q .name .origin) (p .name .origin) && among (p .name .number) (q .after) || isParent (q .name) (p .parent)
+    sameOrigin (q .name .origin) (p .name .origin) && elem (p .name .number) (q .after) || isParent (q .name) (p .parent)
 
 -- A waiting goal is free if no goal it comes after still waits.
 unfoldable pub free : List Waiting → Waiting → Bool
@@ -64,10 +64,10 @@ enter o parent i (n ∷ ns) =
 
 -- At first the waiting list holds the order's goals in listed order.
 unfoldable pub goalsOf : Order → List Waiting
-goalsOf o = enter order none 0 (o .goals)
+goalsOf o = enter from-order none 0 (o .goals)
 
 abbrev pub noGoal : Waiting
-noGoal = record { name = record { origin = order; number = 0 }; parent = none; after = []; formula = [] }
+noGoal = record { name = record { origin = from-order; number = 0 }; parent = none; after = []; formula = [] }
 
 -- The goal at a place, from 0.
 abbrev pub goalAt : List Waiting → ℕ → Waiting

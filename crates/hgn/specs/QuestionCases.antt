@@ -8,8 +8,8 @@ use mathlib.Core.Bool.{not, _&&_}
 use mathlib.Core.List.{List, [], _∷_, _++_, map}
 use lib.Dec.{eqb}
 use lib.ListN.{length}
-use Rattle.hgn.specs.Lists.{keep, from}
-use Rattle.hgn.specs.Questions.{Refusal, told}
+use Rattle.hgn.specs.Lists.{filter, range}
+use Rattle.hgn.specs.Questions.{Refusal, answered}
 use Rattle.hgn.specs.Shop.{checkShop}
 use Rattle.hgn.specs.Order.{checkOrder}
 use Rattle.hgn.specs.Trace.{checkTrace}
@@ -153,18 +153,18 @@ abbrev pub zeroRows : List ℕ → List ℕ
 zeroRows tags = length tags ∷ tags ++ repeated (length tags) (0 ∷ [])
 
 abbrev pub shopTold : List ℕ → Refusal
-shopTold tags = told (checkShop ((1 ∷ 0 ∷ 0 ∷ []) ++ zeroRows tags))
+shopTold tags = answered (checkShop ((1 ∷ 0 ∷ 0 ∷ []) ++ zeroRows tags))
 
 abbrev pub orderTold : List ℕ → Refusal
-orderTold tags = told (checkOrder (1 ∷ 0 ∷ 0 ∷ 0 ∷ []) ((1 ∷ 0 ∷ []) ++ zeroRows tags))
+orderTold tags = answered (checkOrder (1 ∷ 0 ∷ 0 ∷ 0 ∷ []) ((1 ∷ 0 ∷ []) ++ zeroRows tags))
 
 -- The tags behind which the sheet is not refused by this question at that row.
 abbrev pub allowedBy : (List ℕ → Refusal) → ℕ → FollowCase → List ℕ
-allowedBy toldOf q c =
-    keep (λ t. not (eqb (toldOf (c .tags ++ (t ∷ [])) .number) q && eqb (toldOf (c .tags ++ (t ∷ [])) .place) (length (c .tags)))) (from 0 14)
+allowedBy answerFor q c =
+    filter (λ t. not (eqb (answerFor (c .tags ++ (t ∷ [])) .number) q && eqb (answerFor (c .tags ++ (t ∷ [])) .place) (length (c .tags)))) (range 0 14)
 
-abbrev pub toldOf : SheetCase → Refusal
-toldOf c = told (checkTrace (c .shop) (c .order) (c .trace))
+abbrev pub answerFor : SheetCase → Refusal
+answerFor c = answered (checkTrace (c .shop) (c .order) (c .trace))
 
 abbrev pub refusalOf : SheetCase → Refusal
 refusalOf c = record { number = c .number; place = c .place }
@@ -421,7 +421,7 @@ expectedSearch c = record { refusal = record { number = c .number; place = c .pl
 
 -- Every case comes out as it says.
 pub record QuestionCases : Type 0 where
-  pub sheets : map toldOf sheetCases ≡ map refusalOf sheetCases
+  pub sheets : map answerFor sheetCases ≡ map refusalOf sheetCases
   pub follows-in-shop : map (allowedBy shopTold 4) shopFollows ≡ map (λ c. c .allowed) shopFollows
   pub follows-in-order : map (allowedBy orderTold 14) orderFollows ≡ map (λ c. c .allowed) orderFollows
   pub steps : map computed stepCases ≡ map expected stepCases

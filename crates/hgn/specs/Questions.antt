@@ -46,9 +46,9 @@ firstNo [] = passed
 firstNo (q ∷ qs) = cond (q .answer) (firstNo qs) (refused (q .refusal))
 
 -- A verdict as a check of sheets answers it: "0 and 0 when passed".
-abbrev pub told : Verdict → Refusal
-told passed = noRefusal
-told (refused r) = r
+abbrev pub answered : Verdict → Refusal
+answered passed = noRefusal
+answered (refused r) = r
 
 -- The refusal of the first question of the list with the answer no: `firstNo` as a proposition.
 pub data FirstNo : List Question → Refusal → Type 0 where

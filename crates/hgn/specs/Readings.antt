@@ -9,13 +9,13 @@ use mathlib.Core.Logic.{_↔_, _⊎_, _≢_}
 use mathlib.Core.List.{List, [], _∷_, _++_, map, List·Memᴰ}
 use lib.ListN.{length, getD}
 use mathlib.Core.Option.{Option, none, some}
-use Rattle.hgn.specs.Lists.{At, below, from}
+use Rattle.hgn.specs.Lists.{At, range}
 use Rattle.hgn.specs.Questions.{Refusal, passed}
 use Rattle.hgn.specs.Questions as Questions
 use Rattle.hgn.specs.Tag.{mostCost}
 use Rattle.hgn.specs.Meaning.{Literal, Formula, Node, Action, Method, Domain, Order, lastOf, goalOf, networkOf}
 use Rattle.hgn.specs.State.{State, mostAtoms, Entails, allHold, EntailsAll, formulaHolds, γ, opposite, LiteralOf, Relevant}
-use Rattle.hgn.specs.Network.{Origin, Name, Waiting, step, free, anyFree, enter, goalsOf, goalAt, released, decomposed}
+use Rattle.hgn.specs.Network.{Origin, Name, Waiting, from-step, free, anyFree, enter, goalsOf, goalAt, released, decomposed}
 use Rattle.hgn.specs.Network as Network
 use Rattle.hgn.specs.Run.{Step, release, act, use-method, unknown, moveOf, known, actionAt, methodAt, Problem, startOf, problemFrom}
 use Rattle.hgn.specs.Run.{Rules, Decided, strict, moved, Deed, Stepped, refused, taken, stepped, costOf}
@@ -27,7 +27,7 @@ use Rattle.hgn.specs.Trace.{sizeWords, stepCount, mostSteps, stepsOf, ch
 use Rattle.hgn.specs.Replay.{rulesOf, replay}
 use Rattle.hgn.specs.Search.{Earlier, mostDepth, isFound, searched, search}
 use Rattle.hgn.specs.Written.{ConjunctRules, SheetsAreWritten}
-use Rattle.hgn.specs.Definition1.{Derivation, Listed, Precedes, Unconstrained}
+use Rattle.hgn.specs.Definition1.{Derivation, ComesAfter, Precedes, Unconstrained}
 
 -- Accepted is derived. Whatever the rules, if their tests decide their propositions, and whatever the first problem, accepted steps are a
 -- derivation of the same plan and last state, and back. The limit on actions keeps the moves apart. The tests of 000's rules decide, so
@@ -100,7 +100,7 @@ pub record QuestionsInOrder : Type 1 where
 -- "every goal of the first before every goal of the second": in the join's list the first's goals have the first places.
 abbrev pub FirstBeforeSecond : Type 0
 FirstBeforeSecond = (a b : Order) (i j : ℕ) (p q : Waiting) → At (goalsOf (join a b)) i p → At (goalsOf (join a b)) j q
-    → i < length (a .goals) → length (a .goals) ≤ j → Listed p q
+    → i < length (a .goals) → length (a .goals) ≤ j → ComesAfter q p
 
 -- The join: "the first's start rows, the first's goals with their rows, then the second's goals in listed order. The 11 rows of each of these
 -- are 0 to G - 1 of the first, then its own raised by that G."
@@ -109,13 +109,13 @@ pub record JoinIs01s (a b : Order) : Type 0 where
   pub first : (k : ℕ) (n : Node) → At (a .goals) k n → At (join a b .goals) k n
   pub second : (k : ℕ) (n : Node) → At (b .goals) k n
       → At (join a b .goals) (length (a .goals) + k)
-      (record { after = from 0 (length (a .goals)) ++ map (λ i. length (a .goals) + i) (n .after); formula = n .formula })
+      (record { after = range 0 (length (a .goals)) ++ map (λ i. length (a .goals) + i) (n .after); formula = n .formula })
   pub alone : length (join a b .goals) ≡ length (a .goals) + length (b .goals)
 
 -- The 11 rows of an order: a goal comes after those that its rows name and after no other.
 abbrev pub GoalsAfterListed : Type 0
 GoalsAfterListed = (o : Order) (i j : ℕ) (p q : Waiting) (n : Node) → At (goalsOf o) i p → At (goalsOf o) j q → At (o .goals) j n
-    → Listed p q ↔ List·Memᴰ i (n .after)
+    → ComesAfter q p ↔ List·Memᴰ i (n .after)
 
 -- The order of a sheet that passes with this shop sheet, or a join of such orders.
 pub data FromSheets (shop : List ℕ) : Order → Type 0 where
@@ -143,11 +143,11 @@ pub record OrderedNetwork (w : List Waiting) : Type 0 where
 
 -- The nodes T_m of a method used at goal `t` in step `n`.
 abbrev pub entering : ℕ → Waiting → Method → List Waiting
-entering n t m = enter (step n) (some (t .name)) 0 (networkOf m)
+entering n t m = enter (from-step n) (some (t .name)) 0 (networkOf m)
 
 -- A listed pair between two goals of the list.
 abbrev pub Pair : List Waiting → Waiting → Waiting → Type 0
-Pair w a b = List·Memᴰ a w × List·Memᴰ b w × Listed a b
+Pair w a b = List·Memᴰ a w × List·Memᴰ b w × ComesAfter b a
 
 -- The transitive closure of a relation.
 pub data Closure (R : Waiting → Waiting → Type 0) : Waiting → Waiting → Type 0 where
@@ -160,14 +160,14 @@ pub record Operations (n : ℕ) (w : List Waiting) : Type 0 where
       → Precedes (released w p) a b ↔ Precedes w a b
   pub method-new : (p : ℕ) (t a : Waiting) (m : Method) → At w p t → List·Memᴰ a (entering n t m) → ¬ List·Memᴰ a w
   pub method-nodes : (p : ℕ) (t a : Waiting) (m : Method) → At w p t
-      → List·Memᴰ a (decomposed w p (step n) (networkOf m)) ↔ (List·Memᴰ a w ⊎ List·Memᴰ a (entering n t m))
+      → List·Memᴰ a (decomposed w p (from-step n) (networkOf m)) ↔ (List·Memᴰ a w ⊎ List·Memᴰ a (entering n t m))
   pub method-pairs : (p : ℕ) (t a b : Waiting) (m : Method) → At w p t
-      → Pair (decomposed w p (step n) (networkOf m)) a b
+      → Pair (decomposed w p (from-step n) (networkOf m)) a b
       ↔ (Pair w a b
       ⊎ ((List·Memᴰ a (entering n t m) × List·Memᴰ b (entering n t m) × List·Memᴰ (a .name .number) (b .after))
       ⊎ (List·Memᴰ a (entering n t m) × (b ≡ t))))
   pub method-order : (p : ℕ) (t a b : Waiting) (m : Method) → At w p t
-      → Precedes (decomposed w p (step n) (networkOf m)) a b
+      → Precedes (decomposed w p (from-step n) (networkOf m)) a b
       ↔ Closure (λ a b. Precedes w a b ⊎ (Precedes (entering n t m) a b ⊎ (List·Memᴰ a (entering n t m) × (b ≡ t)))) a b
 
 abbrev pub NetworksAre000s : Type 1
@@ -180,7 +180,7 @@ NetworksAre000s = (shop : List ℕ) (o : Order) → FromSheets shop o
 pub record PlacesAre01s : Type 0 where
   pub goals-as-listed : (o : Order) (k : ℕ) (n : Node) → At (o .goals) k n
       → At (goalsOf o) k
-      (record { name = record { origin = Network.order; number = k }; parent = none; after = n .after; formula = n .formula })
+      (record { name = record { origin = Network.from-order; number = k }; parent = none; after = n .after; formula = n .formula })
   pub goals-alone : (o : Order) → length (goalsOf o) ≡ length (o .goals)
   pub nodes-as-listed : (o : Origin) (parent : Option Name) (nodes : List Node) (k : ℕ) (n : Node) → At nodes k n
       → At (enter o parent 0 nodes) k
@@ -200,10 +200,10 @@ pub record PlacesAre01s : Type 0 where
 
 pub record EndsInGoal (m : Method) : Type 0 where
   pub goal : lastOf (networkOf m) .formula ≡ goalOf m ∷ []
-  pub after-others : lastOf (networkOf m) .after ≡ below (length (networkOf m) - 1)
+  pub after-others : lastOf (networkOf m) .after ≡ range 0 (length (networkOf m) - 1)
   -- A method's other nodes are as its rows list them.
   pub others : (init : List Node) (last : Node) → m .nodes ≡ init ++ (last ∷ [])
-      → networkOf m ≡ init ++ (record { after = below (length init); formula = last .formula } ∷ [])
+      → networkOf m ≡ init ++ (record { after = range 0 (length init); formula = last .formula } ∷ [])
 
 abbrev pub MethodsEndInGoals : Type 0
 MethodsEndInGoals = (shop : List ℕ) → checkShop shop ≡ passed → (m : Method) → List·Memᴰ m (domain shop .methods) → EndsInGoal m

@@ -11,7 +11,7 @@ use Rattle.hgn.specs.Questions.{Refusal, Question, _asks_, placed, allAt
 use Rattle.hgn.specs.Questions as Questions
 use Rattle.hgn.specs.Meaning.{Formula, Action, Method, Domain, Order, goalOf, networkOf}
 use Rattle.hgn.specs.State.{State, emptyState, assign, γ, allHold, formulaHolds, relevant, Relevant}
-use Rattle.hgn.specs.Network.{Waiting, step, free, anyFree, goalsOf, goalAt, released, decomposed}
+use Rattle.hgn.specs.Network.{Waiting, from-step, free, anyFree, goalsOf, goalAt, released, decomposed}
 
 -- A planning problem of 000 less its domain: the state, and the goal network as the waiting list.
 pub record Problem : Type 0 where
@@ -113,7 +113,7 @@ strict limit d = record {
 unfoldable pub moved : Domain → ℕ → Problem → ℕ → Move → Problem
 moved d n P p release = record { state = P .state; waiting = released (P .waiting) p }
 moved d n P p (act k) = record { state = γ (P .state) (actionAt d k .effects); waiting = P .waiting }
-moved d n P p (use-method m) = record { state = P .state; waiting = decomposed (P .waiting) p (step n) (networkOf (methodAt d m)) }
+moved d n P p (use-method m) = record { state = P .state; waiting = decomposed (P .waiting) p (from-step n) (networkOf (methodAt d m)) }
 moved d n P p unknown = P
 
 -- A move's own questions, at the goal of place `p`. "For a release, does it hold? 29. For the others: needs hold? 30. Relevant? 31. For a

@@ -8,7 +8,7 @@ use mathlib.Core.List.{List, [], _∷_, _++_, map, flatten}
 use mathlib.Core.Option.{Option, none, some, Option·map}
 use lib.Dec.{leb}
 use lib.ListN.{length, drop}
-use Rattle.hgn.specs.Lists.{from, firstSome}
+use Rattle.hgn.specs.Lists.{range, firstSome}
 use Rattle.hgn.specs.Questions.{Refusal, noRefusal, placed, Question, _asks_, passed, firstNo}
 use Rattle.hgn.specs.Questions as Questions
 use Rattle.hgn.specs.Meaning.{Domain}
@@ -27,7 +27,7 @@ pub data Earlier : List Step → List Step → Type 0 where
 
 -- The known moves, rising: 0, 1 to K, 256 to 255 + M.
 unfoldable pub movesOf : Domain → List ℕ
-movesOf d = 0 ∷ from 1 (length (d .actions)) ++ from firstMethod (length (d .methods))
+movesOf d = 0 ∷ range 1 (length (d .actions)) ++ range firstMethod (length (d .methods))
 
 -- The steps with a known move at a place.
 unfoldable pub stepsAt : Domain → ℕ → List Step
@@ -36,7 +36,7 @@ stepsAt d p = map (λ m. step m p) (movesOf d)
 -- The steps to try: "from place to move", at the first place every move, then at the next.
 unfoldable pub candidates : Domain → List Waiting → List Step
 unfolding flatten
-candidates d w = flatten (map (stepsAt d) (from 0 (length w)))
+candidates d w = flatten (map (stepsAt d) (range 0 (length w)))
 
 -- The trace of no steps, which solves a problem where nothing waits.
 unfoldable pub noSteps : List Waiting → Option (List Step)
@@ -56,7 +56,7 @@ firstOf (suc k) r n P =
 
 -- The first of the shortest: of 0 steps, of 1, and so on up to `depth`.
 unfoldable pub firstShortest : ℕ → Rules → Problem → Option (List Step)
-firstShortest depth r P = firstSome (λ k. firstOf k r 0 P) (from 0 (suc depth))
+firstShortest depth r P = firstSome (λ k. firstOf k r 0 P) (range 0 (suc depth))
 
 unfoldable pub isFound : Option (List Step) → Bool
 isFound none = false

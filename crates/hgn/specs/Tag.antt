@@ -4,7 +4,7 @@ use Prim.Native.Nat.{ℕ, suc}
 use mathlib.Core.Bool.{Bool, true, false, cond, _||_}
 use mathlib.Core.List.{List, [], _∷_}
 use lib.Dec.{eqb, leb, ltb}
-use Rattle.hgn.specs.Lists.{among}
+use Rattle.hgn.specs.Lists.{elem}
 
 abbrev pub action : ℕ
 action = 1
@@ -87,9 +87,9 @@ unfoldable pub contextAfter : Context → ℕ → Context
 contextAfter c t =
     cond (eqb t action) inAction
     (cond (eqb t method) inMethod
-    (cond (among t (makesTrue ∷ makesFalse ∷ [])) inEffects
-    (cond (among t (node ∷ after ∷ [])) inNode
-    (cond (among t (alternative ∷ wantedTrue ∷ wantedFalse ∷ [])) inAlternative
+    (cond (elem t (makesTrue ∷ makesFalse ∷ [])) inEffects
+    (cond (elem t (node ∷ after ∷ [])) inNode
+    (cond (elem t (alternative ∷ wantedTrue ∷ wantedFalse ∷ [])) inAlternative
     c))))
 
 -- "Groups: the 3 and 4 rows of one action or method; its 5 and 6 rows; the 9 and 10 rows of one alternative; the 11 rows of one
@@ -108,12 +108,12 @@ opening = record { context = atStart; least = 0; nodes = 0 }
 
 -- The rows that begin an action, a method, a node or an alternative: they stand in no group.
 unfoldable pub begins : ℕ → Bool
-begins t = among t (action ∷ method ∷ node ∷ alternative ∷ [])
+begins t = elem t (action ∷ method ∷ node ∷ alternative ∷ [])
 
 -- The least value for this tag: the first 5 or 6 of an action does not go on in the group of the 3 and 4 rows before it.
 unfoldable pub leastHere : Position → ℕ → ℕ
 leastHere p t = elim (p .context) [
-  | inAction ↦ cond (among t (makesTrue ∷ makesFalse ∷ [])) 0 (p .least)
+  | inAction ↦ cond (elem t (makesTrue ∷ makesFalse ∷ [])) 0 (p .least)
   | atStart ↦ p .least
   | inEffects ↦ p .least
   | inMethod ↦ p .least

@@ -7,9 +7,9 @@ use mathlib.Core.Bool.{cond}
 use mathlib.Core.Logic.{_↔_}
 use mathlib.Core.List.{List, [], _∷_, _++_, map, flatMap, List·Memᴰ}
 use lib.ListN.{length}
-use Rattle.hgn.specs.Lists.{parts, At}
+use Rattle.hgn.specs.Lists.{splitAtEach, At}
 use Rattle.hgn.specs.Rows.{Row, row, has}
-use Rattle.hgn.specs.Meaning.{Literal, Node, Action, Method, Domain, Order, opens}
+use Rattle.hgn.specs.Meaning.{Literal, Node, Action, Method, Domain, Order, beginsOperator}
 use Rattle.hgn.specs.Run.{Step}
 use Rattle.hgn.specs.Questions.{passed}
 use Rattle.hgn.specs.Shop as Shop
@@ -127,13 +127,13 @@ pub record TraceIsWritten (shop sheet trace : List ℕ) : Type 0 where
 
 -- A part of a sheet is an action, a method, a node or an alternative as it is written: its first row and the rows up to the next such part.
 pub record PartsAreWritten : Type 0 where
-  pub of-domain : (d : Domain) → parts opens (domainRows d) ≡ map actionRows (d .actions) ++ map methodRows (d .methods)
-  pub of-method : (m : Method) → parts (has 7) (methodRows m) ≡ map nodeRows (m .nodes)
-  pub of-order : (o : Order) → parts (has 7) (orderRows o) ≡ map nodeRows (o .goals)
-  pub of-node : (n : Node) → parts (has 8) (nodeRows n) ≡ map alternativeRows (n .formula)
+  pub of-domain : (d : Domain) → splitAtEach beginsOperator (domainRows d) ≡ map actionRows (d .actions) ++ map methodRows (d .methods)
+  pub of-method : (m : Method) → splitAtEach (has 7) (methodRows m) ≡ map nodeRows (m .nodes)
+  pub of-order : (o : Order) → splitAtEach (has 7) (orderRows o) ≡ map nodeRows (o .goals)
+  pub of-node : (n : Node) → splitAtEach (has 8) (nodeRows n) ≡ map alternativeRows (n .formula)
 
 pub record SheetsAreWritten : Type 0 where
   pub shops : (shop : List ℕ) → ShopIsWritten shop
   pub orders : (shop sheet : List ℕ) → checkShop shop ≡ passed → OrderIsWritten shop sheet
-  pub parts : PartsAreWritten
+  pub splitAtEach : PartsAreWritten
   pub traces : (shop sheet trace : List ℕ) → checkOrder shop sheet ≡ passed → TraceIsWritten shop sheet trace

@@ -10,8 +10,8 @@ use lib.Seq.{getD-set-same, getD-set-other}
 use borrow.Author.Tests.{eqb-true, eqb-false}
 use Rattle.hgn.specs.Network as Network
 use Rattle.hgn.specs.Network.{goalAt}
-use Rattle.network.specs.Pending.{listed}
-use Rattle.network.specs.Kept.{Raised}
+use Rattle.network.specs.Pending.{timesListed}
+use Rattle.network.specs.Shifts.{Shifted}
 
 -- `number` counts from `from` on are to move `by` places up; those from `i` on have.
 pub record Raising (from by number : ℕ) (c r : List ℕ) (i : ℕ) : Type 0 where
@@ -44,7 +44,7 @@ module _ (from by number : ℕ) (c : List ℕ) where
         go k a b false e = let d = eqb-false k (i - 1) e in
             getD-set-other r (from + by + (i - 1)) (from + by + k) _ 0 (λ z. d (omega arith)) ∙ v .higher k (omega (arith, d)) b
 
-    pub raising-done : (i : ℕ) → Raising from by number c r i → i ≤ 0 → Raised from by number c r
+    pub raising-done : (i : ℕ) → Raising from by number c r i → i ≤ 0 → Shifted from by number c r
     raising-done i v z = record { size = v .size; before = λ k h. v .before k (omega arith); higher = λ k h. v .higher k (omega arith) h }
 
 -- `w` is the list once `more` nodes have entered directly before place `p`.
@@ -59,4 +59,4 @@ pub record Entered (w : List Network.Waiting) (p more : ℕ) (c r : List ℕ) : 
 pub record Released (w : List Network.Waiting) (p : ℕ) (c r : List ℕ) : Type 0 where
   pub size : length r ≡ length c
   pub before : (k : ℕ) → k < p → getD r k 0 ≡ getD c k 0
-  pub behind : (k : ℕ) → p ≤ k → suc k < length w → getD r k 0 + listed (goalAt w (suc k)) (goalAt w p) ≡ getD c (suc k) 0
+  pub behind : (k : ℕ) → p ≤ k → suc k < length w → getD r k 0 + timesListed (goalAt w (suc k)) (goalAt w p) ≡ getD c (suc k) 0

@@ -22,7 +22,7 @@ use Rattle.network.specs.declared.waiting.Entry.{Entry}
 module _ (shop order : List ℕ) (sheet : Sheet) where
   -- The nodes of a method used at step `n`.
   pub method-enters : {table : List ℕ} {e row : ℕ} {bs : List Bounds} (n : ℕ) (parent : Name) (j : ℕ) → n ≢ orderOrigin → Walk table e row bs
-      → map (waitingOf shop order) (entriesFrom sheet n parent true e j bs) ≡ enter (Network.step n) (some (nameOf parent)) j (lastAfterAll j (map (nodeAt shop order sheet) bs))
+      → map (waitingOf shop order) (entriesFrom sheet n parent true e j bs) ≡ enter (Network.from-step n) (some (nameOf parent)) j (lastAfterAll j (map (nodeAt shop order sheet) bs))
   unfolding entriesFrom enter lastAfterAll waitingOf nodeOf
   method-enters n parent j z stop = refl
   method-enters {e = e} n parent j z (next {to = to} a b h q stop) = rw (ne-eqb n orderOrigin z, eq-eqb e e refl)
@@ -31,7 +31,7 @@ module _ (shop order : List ℕ) (sheet : Sheet) where
 
   -- The goals of an order.
   pub order-enters : (e : ℕ) (bs : List Bounds) (parent : Name) (j : ℕ)
-      → map (waitingOf shop order) (entriesFrom sheet orderOrigin parent false e j bs) ≡ enter Network.order none j (map (nodeAt shop order sheet) bs)
+      → map (waitingOf shop order) (entriesFrom sheet orderOrigin parent false e j bs) ≡ enter Network.from-order none j (map (nodeAt shop order sheet) bs)
   unfolding entriesFrom enter waitingOf nodeOf
   order-enters e [] parent j = refl
   order-enters e (b ∷ bs) parent j = ap₂ {C = List Network.Waiting} (λ x l. x ∷ l) refl (order-enters e bs parent (suc j))

@@ -1,27 +1,26 @@
 -- The nodes of a network, written as goals from a place on. Assumes nothing.
-use Prim.Native.Nat.{ℕ, zero, suc, _+_, _-_, _*_, _<_, _≤_, min}
+use Prim.Native.Nat.{ℕ, _+_, _-_, _<_, _≤_}
 use native.Mathlib.Omega.{arith}
-use native.Mathlib.Numerals.{add-one}
-use native.Mathlib.Nat.{add-zero, zero-add}
-use mathlib.Core.Path.{_≡_, refl, sym, ap, ap₂, subst, _∙_}
-use mathlib.Core.Bool.{Bool, true, false, cond, _&&_}
+use native.Mathlib.Nat.{zero-add}
+use mathlib.Core.Path.{_≡_, refl, sym, ap, ap₂, _∙_}
+use mathlib.Core.Bool.{Bool, true, false, _&&_}
 use mathlib.Core.List.{List, [], _∷_, _++_, map, zipWith, append-assoc, append-nil, map-append}
 use mathlib.Core.Option.{some}
 use lib.Dec.{eqb, leb}
 use lib.ListN.{length, take, drop, getD, set, length-append, length-take, length-set}
 use lib.Seq.{getD-set-same, getD-set-other}
 use borrow.Author.Tests.{eqb-true, eqb-false, ne-eqb}
-use Rattle.hgn.specs.Lists.{below}
-use Rattle.hgn.specs.Rows.{Row, row, has, valuesOf, mostRows}
+use Rattle.hgn.proofs.Logic.Ranges.{length-range}
+use Rattle.hgn.specs.Rows.{Row, row, has, valuesTagged, mostRows}
 use Rattle.hgn.specs.Tag as Tag
 use Rattle.hgn.specs.Meaning.{Node, networkOf, lastAfterAll}
 use Rattle.hgn.specs.Network as Network
-use Rattle.hgn.specs.Network.{mostWaiting, step, goalAt, free, enter, decomposed}
+use Rattle.hgn.specs.Network.{mostWaiting, from-step, goalAt, free, enter, decomposed}
 use Rattle.hgn.specs.Run.{methodAt}
 use Rattle.hgn.specs.Shop.{domain, methodCount}
-use Rattle.hgn.proofs.Embedding.{take-map, drop-map}
+use Rattle.hgn.proofs.Join.Embedding.{take-map, drop-map}
 use Rattle.sheet_check.specs.declared.rows.Layout.{Layout}
-use Rattle.sheet_index.specs.Index.{span, spanRows, wordsOf, layoutOf, columnPart, tagsOf, valuesOf as valuesIn}
+use Rattle.sheet_index.specs.Index.{span, spanRows, sheetWords, layoutOf, columnPart, tagsOf, valuesOf as valuesIn}
 use Rattle.sheet_index.specs.Tables.{Indexed, Bounds, Walk, MethodAt}
 use Rattle.sheet_index.specs.declared.operators.MethodRows.{MethodRows}
 use Rattle.sheet_index.proofs.OperatorRows.{method-size}
@@ -38,15 +37,15 @@ use Rattle.network.specs.Goals.{fields, pendingField, goalsWords, countI
 use Rattle.network.specs.Goals.{goalsIn, listIn, countsIn, Within, Put, OpenedWords, nodeEntries, NodesWritten, Decomposed, Begun}
 use Rattle.network.specs.declared.goals.Entering.{Entering}
 use Rattle.network.proofs.WaitingGoals.{same-entry, goals-take, goals-drop, goals-append, goals-same, list-length, list-at, count-at, counts-length}
-use Rattle.network.specs.Pending.{Counted}
+use Rattle.network.specs.Pending.{PendingCounts}
 use Rattle.network.specs.Reaching.{ListReached}
 use Rattle.network.proofs.Counts.{Entered}
-use Rattle.network.proofs.Counted.{counted-grown}
+use Rattle.network.proofs.PendingCounts.{counted-grown}
 use Rattle.network.proofs.Reaching.{reached-sound}
 
 -- No more numbers stand in a part's rows than it has rows.
-values-few : (t : ℕ) (rs : List Row) → length (valuesOf t rs) ≤ length rs
-unfolding valuesOf
+values-few : (t : ℕ) (rs : List Row) → length (valuesTagged t rs) ≤ length rs
+unfolding valuesTagged
 values-few t [] = omega arith
 values-few t (r ∷ rs) = let ih = values-few t rs in by-test (has t r) (λ e. rw e (omega arith)) (λ e. rw e (omega arith))
 
@@ -66,7 +65,7 @@ part-few words l column from to =
 rows-few : (shop order : List ℕ) (s : Span) → length (spanRows shop order s) ≤ s .to .0
 unfolding spanRows tagsOf
 rows-few shop order s =
-    let words = wordsOf (s .sheet) shop order in
+    let words = sheetWords (s .sheet) shop order in
     let layout = layoutOf (s .sheet) words in
     omega (
       arith,
@@ -74,16 +73,11 @@ rows-few shop order s =
       part-few words layout (layout .sizes) (s .from .0) (s .to .0),
     )
 
-below-length : (n : ℕ) → length (below n) ≡ n
-unfolding below
-below-length zero = refl
-below-length (suc n) = length-append (below n) (n ∷ []) ∙ ap (λ (k : ℕ). k + 1) (below-length n) ∙ add-one n
-
 -- A goal is listed after no more nodes than its rows end at, or than stand before it.
 pub afters-few : (shop order : List ℕ) (e : Entry) → e .rows .to .0 ≤ mostRows → e .name .number ≤ mostWaiting → length (waitingOf shop order e .after) ≤ mostRows
 unfolding waitingOf
 afters-few shop order e h k =
-    by-test (e .last) (λ b. rw b (omega (arith, below-length (e .name .number))))
+    by-test (e .last) (λ b. rw b (omega (arith, length-range 0 (e .name .number))))
     (λ b. rw b (omega (arith, values-few Tag.after (spanRows shop order (e .rows)), rows-few shop order (e .rows))))
 
 one-goal : (ws : List ℕ) (p : ℕ) {e : Entry} → entryIn ws p ≡ e → goalsFrom ws p 1 ≡ e ∷ []
@@ -259,7 +253,7 @@ module _ {shop order tables : List ℕ} (ix : Indexed shop order tables) {m : �
   goals-last : goalsIn last ≡ goalsIn b
   goals-last = ap (goalsFrom last 0) count-last ∙ goals-same last b 0 0 (countIn b) (λ k h. entry-last (0 + k))
 
-  list-last : listIn shop order last ≡ decomposed (listIn shop order ws) p (step n) (networkOf (methodAt (domain shop) m))
+  list-last : listIn shop order last ≡ decomposed (listIn shop order ws) p (from-step n) (networkOf (methodAt (domain shop) m))
   unfolding decomposed networkOf waitingOf
   list-last =
       let l = goalsIn ws in
@@ -272,7 +266,7 @@ module _ {shop order tables : List ℕ} (ix : Indexed shop order tables) {m : �
       (map-append (waitingOf shop order) (nodeEntries network (at .bs)) (drop p l)
       ∙ ap₂ {C = List Network.Waiting} (λ x y. x ++ y)
       (ap (map (waitingOf shop order)) news ∙ method-enters shop order Of.Shop n (network .parent) 0 (λ z. absurd (omega arith)) (at .walk)
-      ∙ ap₂ {C = List Network.Waiting} (λ (q : Network.Name) (ns : List Node). enter (Network.step n) (some q) 0 (lastAfterAll 0 ns)) name (at .nodes))
+      ∙ ap₂ {C = List Network.Waiting} (λ (q : Network.Name) (ns : List Node). enter (Network.from-step n) (some q) 0 (lastAfterAll 0 ns)) name (at .nodes))
       (sym (drop-map (waitingOf shop order) p l)))
 
   size-last : length (listIn shop order last) ≡ countIn ws + more
@@ -294,7 +288,7 @@ module _ {shop order tables : List ℕ} (ix : Indexed shop order tables) {m : �
         ∙ sym (count-at ws k (omega (arith, size-last)));
   }
 
-  pub goals-decomposed : ListReached shop order n (listIn shop order ws) → Counted (listIn shop order ws) (countsIn ws) → free (listIn shop order ws) (goalAt (listIn shop order ws) p) ≡ true
+  pub goals-decomposed : ListReached shop order n (listIn shop order ws) → PendingCounts (listIn shop order ws) (countsIn ws) → free (listIn shop order ws) (goalAt (listIn shop order ws) p) ≡ true
       → Decomposed shop order p n m ws last
   goals-decomposed reached counted is-free = record {
     within = record { size = length-set b here more ∙ entered .size; few = omega (arith, count-last, entered .few) };

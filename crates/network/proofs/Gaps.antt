@@ -7,7 +7,7 @@ use lib.ListN.{length, take, drop, getD}
 use lib.Seq.{length-take-le, getD-drop, getD-append-add}
 use Rattle.hgn.specs.Network as Network
 use Rattle.hgn.specs.Network.{released}
-use Rattle.hgn.proofs.Embedding.{take-map, drop-map}
+use Rattle.hgn.proofs.Join.Embedding.{take-map, drop-map}
 use Rattle.network.specs.Entries.{waitingOf, without}
 use Rattle.network.specs.declared.waiting.Entry.{Entry}
 

@@ -5,7 +5,7 @@ pub mod Afters
 pub mod Counts
 pub mod Pending
 pub mod Reaching
-pub mod Counted
+pub mod PendingCounts
 pub mod Words
 pub mod WaitingGoals
 pub mod Entering

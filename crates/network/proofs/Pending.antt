@@ -12,30 +12,30 @@ use lib.Dec.{eqb}
 use lib.ListN.{length, take, drop, take-append-drop}
 use lib.Seq.{split-at}
 use borrow.Author.Tests.{eqb-true, eqb-false, ne-eqb}
-use Rattle.hgn.specs.Lists.{any, among}
+use Rattle.hgn.specs.Lists.{any, elem}
 use Rattle.hgn.specs.Meaning.{Node}
-use Rattle.hgn.specs.Network.{Origin, step, Name, Waiting, sameOrigin, isParent, comesAfter, free, enter, goalAt, noGoal, released}
-use Rattle.hgn.specs.Definition1.{Listed}
-use Rattle.hgn.proofs.Tests.{not-true-false, comes-after-iff, eq-same-origin, same-origin-true, is-parent-iff}
-use Rattle.hgn.proofs.Checked.{Numbered}
-use Rattle.hgn.proofs.Names.{Named, entered, strangers, parent-outside}
-use Rattle.network.specs.Pending.{occurrences, listed, pending}
+use Rattle.hgn.specs.Network.{Origin, from-step, Name, Waiting, sameOrigin, isParent, comesAfter, free, enter, goalAt, noGoal, released}
+use Rattle.hgn.specs.Definition1.{ComesAfter}
+use Rattle.hgn.proofs.Logic.Tests.{not-true-false, comes-after-iff, eq-same-origin, same-origin-true, is-parent-iff}
+use Rattle.hgn.proofs.Sheets.Checked.{Numbered}
+use Rattle.hgn.proofs.Network.Names.{Named, entered, strangers, parent-outside}
+use Rattle.network.specs.Pending.{occurrences, timesListed, pending}
 
 -- A number stands in a list exactly when it is found there some times.
-none-among : (n : ℕ) (ks : List ℕ) → eqb (occurrences n ks) 0 ≡ not (among n ks)
-unfolding occurrences among any
-none-among n [] = refl
-none-among n (k ∷ ks) = go (eqb n k) (none-among n ks)
+none-elem : (n : ℕ) (ks : List ℕ) → eqb (occurrences n ks) 0 ≡ not (elem n ks)
+unfolding occurrences elem any
+none-elem n [] = refl
+none-elem n (k ∷ ks) = go (eqb n k) (none-elem n ks)
   where
-    go : (b : Bool) → eqb (occurrences n ks) 0 ≡ not (among n ks) → eqb (cond b (suc (occurrences n ks)) (occurrences n ks)) 0 ≡ not (b || among n ks)
+    go : (b : Bool) → eqb (occurrences n ks) 0 ≡ not (elem n ks) → eqb (cond b (suc (occurrences n ks)) (occurrences n ks)) 0 ≡ not (b || elem n ks)
     go true e = ne-eqb (suc (occurrences n ks)) 0 (λ z. omega arith)
     go false e = e
 
 -- A goal is listed after another some times exactly when it comes after it.
-pub none-listed : (q p : Waiting) → eqb (listed q p) 0 ≡ not (comesAfter q p)
-unfolding listed comesAfter
-none-listed q p = go (sameOrigin (q .name .origin) (p .name .origin)) (isParent (q .name) (p .parent)) (among (p .name .number) (q .after))
-    (occurrences (p .name .number) (q .after)) (none-among (p .name .number) (q .after))
+pub none-listed : (q p : Waiting) → eqb (timesListed q p) 0 ≡ not (comesAfter q p)
+unfolding timesListed comesAfter
+none-listed q p = go (sameOrigin (q .name .origin) (p .name .origin)) (isParent (q .name) (p .parent)) (elem (p .name .number) (q .after))
+    (occurrences (p .name .number) (q .after)) (none-elem (p .name .number) (q .after))
   where
     go : (same parent stands : Bool) (n : ℕ) → eqb n 0 ≡ not stands
         → eqb (cond (eqb (cond same n 0) 0) (cond parent 1 0) (cond same n 0)) 0 ≡ not (same && stands || parent)
@@ -46,8 +46,8 @@ none-listed q p = go (sameOrigin (q .name .origin) (p .name .origin)) (isParent 
     go false true stands n e = refl
     go false false stands n e = refl
 
-pub listed-none : (q p : Waiting) → ¬ Listed p q → listed q p ≡ 0
-listed-none q p h = eqb-true (listed q p) 0 (none-listed q p ∙ ap not (not-true-false (comesAfter q p) (λ e. h (comes-after-iff q p .0 e))))
+pub listed-none : (q p : Waiting) → ¬ ComesAfter q p → timesListed q p ≡ 0
+listed-none q p h = eqb-true (timesListed q p) 0 (none-listed q p ∙ ap not (not-true-false (comesAfter q p) (λ e. h (comes-after-iff q p .0 e))))
 
 sum-zero : (a b : ℕ) → eqb (a + b) 0 ≡ (eqb a 0 && eqb b 0)
 sum-zero zero b = let e : 0 + b ≡ b = omega arith in rw e
@@ -62,7 +62,7 @@ pub none-pending : (w : List Waiting) (q : Waiting) → eqb (pending w q) 0 ≡ 
 unfolding pending free any
 none-pending [] q = refl
 none-pending (p ∷ w) q =
-    sum-zero (listed q p) (pending w q)
+    sum-zero (timesListed q p) (pending w q)
     ∙ ap₂ {C = Bool} (λ a b. a && b) (none-listed q p) (none-pending w q)
     ∙ not-or (comesAfter q p) (any (comesAfter q) w)
 
@@ -72,13 +72,13 @@ module _ (q : Waiting) where
   pending-append [] v = omega arith
   pending-append (p ∷ u) v = omega (arith, pending-append u v)
 
-  pub pending-none : (w : List Waiting) → ((p : Waiting) → List·Memᴰ p w → ¬ Listed p q) → pending w q ≡ 0
+  pub pending-none : (w : List Waiting) → ((p : Waiting) → List·Memᴰ p w → ¬ ComesAfter q p) → pending w q ≡ 0
   unfolding pending
   pending-none [] h = refl
   pending-none (p ∷ w) h = omega (arith, listed-none q p (h p (List·Memᴰ·head refl)), pending-none w (λ x m. h x (List·Memᴰ·tail m)))
 
   -- What is counted of the goal at a place, and of the others.
-  pub pending-released : (w : List Waiting) (p : ℕ) → p < length w → pending w q ≡ pending (released w p) q + listed q (goalAt w p)
+  pub pending-released : (w : List Waiting) (p : ℕ) → p < length w → pending w q ≡ pending (released w p) q + timesListed q (goalAt w p)
   unfolding released pending
   pending-released w p h =
       ap (λ (l : List Waiting). pending l q) (split-at w p noGoal h)
@@ -130,16 +130,16 @@ module _ (q : Waiting) (o : Origin) (parent : Option Name) where
   node i n = record { name = record { origin = o; number = i }; parent = parent; after = n .after; formula = n .formula }
 
   of-network : (p : Waiting) → sameOrigin (q .name .origin) (p .name .origin) ≡ true → isParent (q .name) (p .parent) ≡ false
-      → listed q p ≡ occurrences (p .name .number) (q .after)
-  unfolding listed
+      → timesListed q p ≡ occurrences (p .name .number) (q .after)
+  unfolding timesListed
   of-network p e f = rw (e, f) (go (eqb (occurrences (p .name .number) (q .after)) 0) refl)
     where
       go : (b : Bool) → eqb (occurrences (p .name .number) (q .after)) 0 ≡ b → cond b 0 (occurrences (p .name .number) (q .after)) ≡ occurrences (p .name .number) (q .after)
       go true z = sym (eqb-true (occurrences (p .name .number) (q .after)) 0 z)
       go false z = refl
 
-  of-subgoal : (p : Waiting) → sameOrigin (q .name .origin) (p .name .origin) ≡ false → isParent (q .name) (p .parent) ≡ true → listed q p ≡ 1
-  unfolding listed
+  of-subgoal : (p : Waiting) → sameOrigin (q .name .origin) (p .name .origin) ≡ false → isParent (q .name) (p .parent) ≡ true → timesListed q p ≡ 1
+  unfolding timesListed
   of-subgoal p e f = rw (e, f)
 
   pending-network : sameOrigin (q .name .origin) o ≡ true → isParent (q .name) parent ≡ false → (i : ℕ) (ns : List Node)
@@ -176,13 +176,13 @@ pending-entered o parent ns h outside q m =
 -- A method's nodes enter at a goal `t`.
 module _ {n : ℕ} {w : List Waiting} (h : Named n w) (ns : List Node) (t : Waiting) (m : List·Memᴰ t w) where
   abbrev new : List Waiting
-  new = enter (step n) (some (t .name)) 0 ns
+  new = enter (from-step n) (some (t .name)) 0 ns
 
   -- The goal comes after each of them, no other waiting goal does, and they come after no waiting goal.
   pub pending-parent : pending new t ≡ length ns
   pending-parent =
-      pending-subgoals t (step n) (some (t .name))
-      (not-true-false (sameOrigin (t .name .origin) (step n)) (λ e. lt-irrefl n (h .fresh t m .by-name n (same-origin-true _ _ e))))
+      pending-subgoals t (from-step n) (some (t .name))
+      (not-true-false (sameOrigin (t .name .origin) (from-step n)) (λ e. lt-irrefl n (h .fresh t m .by-name n (same-origin-true _ _ e))))
       (is-parent-iff (t .name) (some (t .name)) .1 refl) 0 ns
 
   pub pending-other : (q : Waiting) → List·Memᴰ q w → q .name ≢ t .name → pending new q ≡ 0
@@ -192,4 +192,4 @@ module _ {n : ℕ} {w : List Waiting} (h : Named n w) (ns : List Node) (t : Wait
   pending-waiting e j = pending-none e w (λ q k. strangers ns h q e k j .not-after)
 
   pub pending-new : Numbered 0 ns → (e : Waiting) → List·Memᴰ e new → pending new e ≡ length (e .after)
-  pending-new c e j = pending-entered (step n) (some (t .name)) ns c (parent-outside h m) e j
+  pending-new c e j = pending-entered (from-step n) (some (t .name)) ns c (parent-outside h m) e j

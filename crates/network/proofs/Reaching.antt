@@ -9,7 +9,7 @@ use Rattle.hgn.specs.Run.{Step, Problem, Deed, taken, stepped}
 use Rattle.hgn.specs.Order.{order, checkOrder}
 use Rattle.hgn.specs.Replay.{rulesOf}
 use Rattle.hgn.specs.Readings.{first, next, by-sheet}
-use Rattle.hgn.proofs.Reached.{Sound, sound, one-more}
+use Rattle.hgn.proofs.Network.Reached.{Sound, sound, one-more}
 use Rattle.network.specs.Reaching.{ReachedAt}
 
 -- Its names are distinct and its goals in order.

@@ -14,19 +14,19 @@ use Rattle.hgn.specs.Network.{goalAt, noGoal, released}
 use Rattle.hgn.specs.Questions.{passed}
 use Rattle.hgn.specs.Order.{checkOrder}
 use Rattle.hgn.specs.Lists.{any}
-use Rattle.hgn.proofs.Tests.{true-any}
-use Rattle.hgn.proofs.Waiting.{goal-mem}
-use Rattle.hgn.proofs.Embedding.{getD-default}
+use Rattle.hgn.proofs.Logic.Tests.{true-any}
+use Rattle.hgn.proofs.Network.Waiting.{goal-mem}
+use Rattle.hgn.proofs.Join.Embedding.{getD-default}
 use Rattle.network.specs.Entries.{waitingOf, noEntry, without}
 use Rattle.network.specs.declared.waiting.Entry.{Entry}
 use Rattle.network.proofs.Gaps.{list-released}
-use Rattle.network.specs.Pending.{listed, Counted}
+use Rattle.network.specs.Pending.{timesListed, PendingCounts}
 use Rattle.network.specs.Goals.{fields, pendingField, countIn, startOf, fieldIn, entryFrom, entryIn, pendingIn}
 use Rattle.network.specs.Goals.{goalsFrom, countsFrom, goalsIn, listIn, countsIn, Within, Closed, Lowered, Left, OpenedWords}
-use Rattle.network.specs.Kept.{Raised}
+use Rattle.network.specs.Shifts.{Shifted}
 use Rattle.network.specs.Reaching.{ListReached}
 use Rattle.network.proofs.Counts.{Released}
-use Rattle.network.proofs.Counted.{counted-free, counted-left}
+use Rattle.network.proofs.PendingCounts.{counted-free, counted-left}
 use Rattle.network.proofs.Reaching.{reached-sound}
 
 any-none : (test : Network.Waiting → Bool) (l : List Network.Waiting) → ((k : ℕ) → k < length l → test (goalAt l k) ≡ false) → any test l ≡ false
@@ -115,7 +115,7 @@ pub record Lowering (shop order : List ℕ) (p : ℕ) (ws ws′ : List ℕ) (at 
   pub others : (k f : ℕ) → f < pendingField → fieldIn ws′ k f ≡ fieldIn ws k f
   pub counted : countIn ws′ ≡ countIn ws
   pub before : (k : ℕ) → k ≤ p → pendingIn ws′ k ≡ pendingIn ws k
-  pub behind : (k : ℕ) → p < k → k < at → pendingIn ws′ k + listed (goalAt (listIn shop order ws) k) (goalAt (listIn shop order ws) p) ≡ pendingIn ws k
+  pub behind : (k : ℕ) → p < k → k < at → pendingIn ws′ k + timesListed (goalAt (listIn shop order ws) k) (goalAt (listIn shop order ws) p) ≡ pendingIn ws k
   pub rest : (k : ℕ) → at ≤ k → pendingIn ws′ k ≡ pendingIn ws k
 
 module _ (shop order : List ℕ) (p : ℕ) (ws : List ℕ) where
@@ -135,7 +135,7 @@ module _ (shop order : List ℕ) (p : ℕ) (ws : List ℕ) where
     pub lowering-entry : (k : ℕ) → entryIn ws′ k ≡ entryIn ws k
     lowering-entry k = same-entry ws′ k ws k (v .others k)
 
-    pub lowering-more : (t here : ℕ) → here ≡ startOf at + pendingField → t ≡ listed (goalAt (listIn shop order ws) at) (goalAt (listIn shop order ws) p)
+    pub lowering-more : (t here : ℕ) → here ≡ startOf at + pendingField → t ≡ timesListed (goalAt (listIn shop order ws) at) (goalAt (listIn shop order ws) p)
         → t ≤ pendingIn ws at → here < length ws → Lowering shop order p ws (set ws′ here (pendingIn ws′ at - t)) (at + 1)
     lowering-more t here is e few h = record {
       past = omega (arith, v .past);
@@ -148,22 +148,22 @@ module _ (shop order : List ℕ) (p : ℕ) (ws : List ℕ) where
     }
       where
         go : (k : ℕ) → p < k → k < at + 1 → (y : Bool) → eqb k at ≡ y
-            → pendingIn (set ws′ here (pendingIn ws′ at - t)) k + listed (goalAt (listIn shop order ws) k) (goalAt (listIn shop order ws) p) ≡ pendingIn ws k
+            → pendingIn (set ws′ here (pendingIn ws′ at - t)) k + timesListed (goalAt (listIn shop order ws) k) (goalAt (listIn shop order ws) p) ≡ pendingIn ws k
         go k a b true d =
             let z = eqb-true k at d in
             let x : pendingIn (set ws′ here (pendingIn ws′ at - t)) k ≡ pendingIn ws′ at - t =
             ap (λ (j : ℕ). getD (set ws′ here (pendingIn ws′ at - t)) j 0) (omega arith) ∙ getD-set-same ws′ here _ 0 (omega (arith, v .size)) in
-            let l : listed (goalAt (listIn shop order ws) k) (goalAt (listIn shop order ws) p) ≡ t =
-            ap (λ (j : ℕ). listed (goalAt (listIn shop order ws) j) (goalAt (listIn shop order ws) p)) z ∙ sym e in
+            let l : timesListed (goalAt (listIn shop order ws) k) (goalAt (listIn shop order ws) p) ≡ t =
+            ap (λ (j : ℕ). timesListed (goalAt (listIn shop order ws) j) (goalAt (listIn shop order ws) p)) z ∙ sym e in
             let g : pendingIn ws k ≡ pendingIn ws at = ap (pendingIn ws) z in
             omega (arith, x, l, g, v .rest at (omega arith))
         go k a b false d =
             let z = eqb-false k at d in
-            ap (λ (j : ℕ). j + listed (goalAt (listIn shop order ws) k) (goalAt (listIn shop order ws) p)) (getD-set-other ws′ here (startOf k + pendingField) _ 0 (λ y. z (omega arith)))
+            ap (λ (j : ℕ). j + timesListed (goalAt (listIn shop order ws) k) (goalAt (listIn shop order ws) p)) (getD-set-other ws′ here (startOf k + pendingField) _ 0 (λ y. z (omega arith)))
             ∙ v .behind k a (omega (arith, z))
 
     -- A goal that is not listed after it keeps its count.
-    pub lowering-none : 0 ≡ listed (goalAt (listIn shop order ws) at) (goalAt (listIn shop order ws) p) → startOf at + pendingField < length ws
+    pub lowering-none : 0 ≡ timesListed (goalAt (listIn shop order ws) at) (goalAt (listIn shop order ws) p) → startOf at + pendingField < length ws
         → Lowering shop order p ws ws′ (at + 1)
     lowering-none e h =
         let same : pendingIn ws′ at - 0 ≡ pendingIn ws′ at = omega arith in
@@ -225,13 +225,13 @@ module _ (shop order : List ℕ) (p : ℕ) (ws a b : List ℕ) (w : Within ws) (
         count-at left k (omega (arith, w .few)) ∙ before k pendingField h (omega arith) ∙ lowered .before k (omega arith) ∙ sym (count-at ws k (omega (arith, w .few)));
     behind = λ k h l.
         let n = list-length shop order ws in
-        ap (λ (x : ℕ). x + listed (goalAt (listIn shop order ws) (suc k)) (goalAt (listIn shop order ws) p))
+        ap (λ (x : ℕ). x + timesListed (goalAt (listIn shop order ws) (suc k)) (goalAt (listIn shop order ws) p))
         (count-at left k (omega (arith, n, w .few)) ∙ behind k pendingField h (omega (arith, n)) (omega arith))
         ∙ lowered .behind (suc k) (omega arith) (omega (arith, n))
         ∙ sym (count-at ws (suc k) (omega (arith, n, w .few)));
   }
 
-  pub goal-left : {n : ℕ} → ListReached shop order n (listIn shop order ws) → checkOrder shop order ≡ passed → Counted (listIn shop order ws) (countsIn ws)
+  pub goal-left : {n : ℕ} → ListReached shop order n (listIn shop order ws) → checkOrder shop order ≡ passed → PendingCounts (listIn shop order ws) (countsIn ws)
       → Left shop order p ws left
   goal-left reached passes counted = record {
     within = record { size = length-set b 0 (countIn ws - 1) ∙ long ∙ w .size; few = omega (arith, count-left, w .few) };
@@ -244,7 +244,7 @@ module _ (shop order : List ℕ) (p : ℕ) (ws a b : List ℕ) (w : Within ws) (
 
 -- Room is made by raising the words from those of place `p` on.
 pub words-opened : (p more : ℕ) (ws a : List ℕ) → Within ws → p ≤ countIn ws → countIn ws + more ≤ Network.mostWaiting
-    → {from by number : ℕ} → from ≡ startOf p → by ≡ more * fields → number ≡ (countIn ws - p) * fields → Raised from by number ws a
+    → {from by number : ℕ} → from ≡ startOf p → by ≡ more * fields → number ≡ (countIn ws - p) * fields → Shifted from by number ws a
     → OpenedWords p more ws (set a 0 (countIn ws + more))
 words-opened p more ws a w inside few {from} {by} {number} f b n r =
     let word : (k g : ℕ) → fieldIn (set a 0 (countIn ws + more)) k g ≡ fieldIn a k g = λ k g. getD-set-other a 0 (startOf k + g) _ 0 (λ z. omega arith) in
@@ -261,7 +261,7 @@ words-opened p more ws a w inside few {from} {by} {number} f b n r =
     }
 
 -- A goal is free where its count is 0.
-module _ (shop order ws : List ℕ) (w : Within ws) (counted : Counted (listIn shop order ws) (countsIn ws)) where
+module _ (shop order ws : List ℕ) (w : Within ws) (counted : PendingCounts (listIn shop order ws) (countsIn ws)) where
   pub free-at : (k : ℕ) → k < countIn ws → eqb (pendingIn ws k) 0 ≡ Network.free (listIn shop order ws) (goalAt (listIn shop order ws) k)
   free-at k h =
       ap (λ (n : ℕ). eqb n 0) (sym (count-at ws k (omega (arith, w .few)))) ∙ counted-free (listIn shop order ws) (countsIn ws) counted k (omega (arith, list-length shop order ws))

@@ -5,7 +5,7 @@ use mathlib.Core.List.{List, _++_}
 use mathlib.Core.Option.{none, some}
 use lib.Dec.{eqb}
 use lib.ListN.{take, drop}
-use Rattle.hgn.specs.Lists.{below}
+use Rattle.hgn.specs.Lists.{range}
 use Rattle.hgn.specs.Rows as Rows
 use Rattle.hgn.specs.Tag as Tag
 use Rattle.hgn.specs.Meaning.{nodeOf}
@@ -20,20 +20,20 @@ abbrev pub orderOrigin : ℕ
 orderOrigin = 65535
 
 abbrev pub originOf : ℕ → Network.Origin
-originOf o = cond (eqb o orderOrigin) Network.order (Network.step o)
+originOf o = cond (eqb o orderOrigin) Network.from-order (Network.from-step o)
 
 abbrev pub nameOf : Name → Network.Name
 nameOf n = record { origin = originOf (n .origin); number = n .number }
 
-abbrev pub sameName : Name → Name → Bool
-sameName a b = eqb (a .origin) (b .origin) && eqb (a .number) (b .number)
+abbrev pub sameEntryName : Name → Name → Bool
+sameEntryName a b = eqb (a .origin) (b .origin) && eqb (a .number) (b .number)
 
 -- A waiting goal of the code, as the definitions have it.
 unfoldable pub waitingOf : List ℕ → List ℕ → Entry → Network.Waiting
 waitingOf shop order e = record {
   name = nameOf (e .name);
   parent = cond (eqb (e .name .origin) orderOrigin) none (some (nameOf (e .parent)));
-  after = cond (e .last) (below (e .name .number)) (Rows.valuesOf Tag.after (spanRows shop order (e .rows)));
+  after = cond (e .last) (range 0 (e .name .number)) (Rows.valuesTagged Tag.after (spanRows shop order (e .rows)));
   formula = nodeOf (spanRows shop order (e .rows)) .formula;
 }
 

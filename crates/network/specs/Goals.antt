@@ -18,8 +18,8 @@ use Rattle.sheet_index.specs.Tables.{Bounds}
 use Rattle.network.specs.Entering.{entriesFrom}
 use Rattle.network.specs.declared.waiting.Entry.{Entry}
 use Rattle.network.specs.declared.goals.Entering.{Entering}
-use Rattle.network.specs.declared.goals.Seen.{Seen}
-use Rattle.network.specs.Pending.{listed, Counted}
+use Rattle.network.specs.declared.goals.GoalStatus.{GoalStatus}
+use Rattle.network.specs.Pending.{timesListed, PendingCounts}
 
 -- How many words a goal has, and which of them is its count; `entryFrom` says what the others are.
 abbrev pub fields : ℕ
@@ -106,14 +106,14 @@ pub record Lowered (shop order : List ℕ) (p : ℕ) (ws ws′ : List ℕ) : Typ
   pub others : (k f : ℕ) → f < pendingField → fieldIn ws′ k f ≡ fieldIn ws k f
   pub counted : countIn ws′ ≡ countIn ws
   pub before : (k : ℕ) → k ≤ p → pendingIn ws′ k ≡ pendingIn ws k
-  pub behind : (k : ℕ) → p < k → k < countIn ws → pendingIn ws′ k + listed (goalAt (listIn shop order ws) k) (goalAt (listIn shop order ws) p) ≡ pendingIn ws k
+  pub behind : (k : ℕ) → p < k → k < countIn ws → pendingIn ws′ k + timesListed (goalAt (listIn shop order ws) k) (goalAt (listIn shop order ws) p) ≡ pendingIn ws k
 
 -- The goal at place `p` has left the list, and the counts are right again.
 pub record Left (shop order : List ℕ) (p : ℕ) (ws ws′ : List ℕ) : Type 0 where
   pub within : Within ws′
   pub one-less : countIn ws′ + 1 ≡ countIn ws
   pub list : listIn shop order ws′ ≡ Network.released (listIn shop order ws) p
-  pub counted : Counted (listIn shop order ws′) (countsIn ws′)
+  pub counted : PendingCounts (listIn shop order ws′) (countsIn ws′)
 
 -- Room is made for `more` goals directly before place `p`: those before it are as they were, and those from it on stand higher.
 pub record OpenedWords (p more : ℕ) (ws ws′ : List ℕ) : Type 0 where
@@ -137,11 +137,11 @@ pub record NodesWritten (shop order : List ℕ) (network : Entering) (bs : List 
 -- The nodes of method `m`, used at step `n`, have entered at place `p`, and the counts are right again.
 pub record Decomposed (shop order : List ℕ) (p n m : ℕ) (ws ws′ : List ℕ) : Type 0 where
   pub within : Within ws′
-  pub list : listIn shop order ws′ ≡ Network.decomposed (listIn shop order ws) p (Network.step n) (networkOf (methodAt (domain shop) m))
-  pub counted : Counted (listIn shop order ws′) (countsIn ws′)
+  pub list : listIn shop order ws′ ≡ Network.decomposed (listIn shop order ws) p (Network.from-step n) (networkOf (methodAt (domain shop) m))
+  pub counted : PendingCounts (listIn shop order ws′) (countsIn ws′)
 
--- What is seen at a place where a goal waits.
-pub record LookedAt (ws : List ℕ) (p : ℕ) (r : Seen) : Type 0 where
+-- The status of the goal at a place where one waits.
+pub record StatusAt (ws : List ℕ) (p : ℕ) (r : GoalStatus) : Type 0 where
   pub goal : r .goal ≡ entryIn ws p
   pub free : r .free ≡ eqb (pendingIn ws p) 0
 

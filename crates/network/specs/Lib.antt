@@ -2,6 +2,6 @@
 pub mod Entries
 pub mod Entering
 pub mod Pending
-pub mod Kept
+pub mod Shifts
 pub mod Reaching
 pub mod Goals

@@ -18,14 +18,14 @@ abbrev pub byNetwork : Waiting → Waiting → ℕ
 byNetwork q p = cond (sameOrigin (q .name .origin) (p .name .origin)) (occurrences (p .name .number) (q .after)) 0
 
 -- How often `q` is listed after `p`: by their network, or once if `p` came with a method used at `q`.
-unfoldable pub listed : Waiting → Waiting → ℕ
-listed q p = cond (eqb (byNetwork q p) 0) (cond (isParent (q .name) (p .parent)) 1 0) (byNetwork q p)
+unfoldable pub timesListed : Waiting → Waiting → ℕ
+timesListed q p = cond (eqb (byNetwork q p) 0) (cond (isParent (q .name) (p .parent)) 1 0) (byNetwork q p)
 
 -- How often `q` is listed after goals of a list: 0 where `q` is free.
 unfoldable pub pending : List Waiting → Waiting → ℕ
 pending [] q = 0
-pending (p ∷ w) q = listed q p + pending w q
+pending (p ∷ w) q = timesListed q p + pending w q
 
 -- The counts are those of the waiting goals, place by place.
-abbrev pub Counted : List Waiting → List ℕ → Type 0
-Counted w c = (k : ℕ) → k < length w → getD c k 0 ≡ pending w (goalAt w k)
+abbrev pub PendingCounts : List Waiting → List ℕ → Type 0
+PendingCounts w c = (k : ℕ) → k < length w → getD c k 0 ≡ pending w (goalAt w k)

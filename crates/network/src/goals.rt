@@ -27,9 +27,9 @@ ghost use Rattle.network.specs.Entering.{entryOf};
 ghost use Rattle.hgn.specs.Order.{checkOrder};
 ghost use Rattle.hgn.specs.Questions.{passed};
 ghost use Rattle.network.specs.Goals.{fields, pendingField, goalsWords, countIn, startOf, sheetOf, entryIn, pendingIn, listIn, countsIn};
-ghost use Rattle.network.specs.Goals.{Within, Put, Closed, Lowered, Left, OpenedWords, NodesWritten, Decomposed, LookedAt, Begun};
-ghost use Rattle.network.specs.Kept.{Raised};
-ghost use Rattle.network.specs.Pending.{Counted};
+ghost use Rattle.network.specs.Goals.{Within, Put, Closed, Lowered, Left, OpenedWords, NodesWritten, Decomposed, StatusAt, Begun};
+ghost use Rattle.network.specs.Shifts.{Shifted};
+ghost use Rattle.network.specs.Pending.{PendingCounts};
 ghost use Rattle.network.specs.Reaching.{ListReached};
 
 // How many goals wait, then the words of each, in the order of their places.
@@ -202,7 +202,7 @@ fn lower_counts<'a>(
     goals: &mut [u16; Goals::WORDS],
     place: Place,
 )
-    requires { ⌜ Within (now goals) × (place .0 < countIn (now goals)) × Counted (listIn (now shop) (now order) (now goals)) (countsIn (now goals)) ⌝ }
+    requires { ⌜ Within (now goals) × (place .0 < countIn (now goals)) × PendingCounts (listIn (now shop) (now order) (now goals)) (countsIn (now goals)) ⌝ }
     ensures { λ _. ⌜ Lowered (now (shop .entry)) (now (order .entry)) (place .0) (now (goals .entry)) (now (goals .exit)) ⌝ }
 {
     let goal = entry_at(goals, place);
@@ -225,7 +225,7 @@ fn lower_counts<'a>(
 
 // The goal at a place leaves; the goals behind it move down one place.
 pub fn leave<'a>(shop: &'a [u16], order: &'a [u16], goals: &mut [u16; Goals::WORDS], place: Place)
-    requires { ⌜ Within (now goals) × (place .0 < countIn (now goals)) × Counted (listIn (now shop) (now order) (now goals)) (countsIn (now goals)) ⌝ }
+    requires { ⌜ Within (now goals) × (place .0 < countIn (now goals)) × PendingCounts (listIn (now shop) (now order) (now goals)) (countsIn (now goals)) ⌝ }
     requires { ⌜ ((n : ℕ) × ListReached (now shop) (now order) n (listIn (now shop) (now order) (now goals))) × (checkOrder (now shop) (now order) ≡ passed) ⌝ }
     ensures { λ _. ⌜ Left (now (shop .entry)) (now (order .entry)) (place .0) (now (goals .entry)) (now (goals .exit)) ⌝ }
 {
@@ -235,12 +235,12 @@ pub fn leave<'a>(shop: &'a [u16], order: &'a [u16], goals: &mut [u16; Goals::WOR
     goals[0] = count - 1;
 }
 
-// The `number` words from `from` on move up by so many: the last first, as each is read before it is written over.
-fn raise_words(goals: &mut [u16; Goals::WORDS], from: usize, by: usize, number: usize)
-    requires { ⌜ (from + by + number ≤ goalsWords) × (length (now goals) ≡ goalsWords) ⌝ }
-    ensures { λ _. ⌜ Raised from by number (now (goals .entry)) (now (goals .exit)) ⌝ }
+// `count` words from `from` on move up by so many: the last first, as each is read before it is written over.
+fn shift_words(goals: &mut [u16; Goals::WORDS], from: usize, by: usize, count: usize)
+    requires { ⌜ (from + by + count ≤ goalsWords) × (length (now goals) ≡ goalsWords) ⌝ }
+    ensures { λ _. ⌜ Shifted from by count (now (goals .entry)) (now (goals .exit)) ⌝ }
 {
-    let mut i = number;
+    let mut i = count;
     while 0 < i {
         i -= 1;
         goals[from + by + i] = goals[from + i];
@@ -254,8 +254,8 @@ fn open_gap(goals: &mut [u16; Goals::WORDS], place: Place, more: u16)
 {
     let count = goals[0];
     let by = more as usize * Goals::FIELDS;
-    let number = (count - place.0) as usize * Goals::FIELDS;
-    raise_words(goals, start_of(place), by, number);
+    let words = (count - place.0) as usize * Goals::FIELDS;
+    shift_words(goals, start_of(place), by, words);
     goals[0] = count + more;
 }
 
@@ -355,7 +355,7 @@ pub fn decompose<'a>(
 )
     requires { ⌜ Indexed (now shop) (now order) (now tables) × (method < methodCount (now shop)) × (number < orderOrigin) ⌝ }
     requires { ⌜ Within (now goals) × (place .0 < countIn (now goals)) × (countIn (now goals) + length (networkOf (methodAt (domain (now shop)) method)) ≤ mostWaiting) ⌝ }
-    requires { ⌜ ListReached (now shop) (now order) number (listIn (now shop) (now order) (now goals)) × Counted (listIn (now shop) (now order) (now goals)) (countsIn (now goals)) ⌝ }
+    requires { ⌜ ListReached (now shop) (now order) number (listIn (now shop) (now order) (now goals)) × PendingCounts (listIn (now shop) (now order) (now goals)) (countsIn (now goals)) ⌝ }
     requires { ⌜ free (listIn (now shop) (now order) (now goals)) (goalAt (listIn (now shop) (now order) (now goals)) (place .0)) ≡ true ⌝ }
     ensures { λ _. ⌜ Decomposed (now (shop .entry)) (now (order .entry)) (place .0) number method (now (goals .entry)) (now (goals .exit)) ⌝ }
 {
@@ -379,26 +379,26 @@ pub fn decompose<'a>(
 }
 
 // A waiting goal, and whether it is free.
-pub struct Seen {
+pub struct GoalStatus {
     pub goal: Entry,
     pub free: bool,
 }
 
-// What is seen at a place: its goal, and whether that is free. Of a place where no goal waits it is left free.
-pub fn look(goals: &[u16; Goals::WORDS], place: Place) -> Seen
+// The goal at a place, and whether it is free. Of a place where no goal waits, nothing is said.
+pub fn status_at(goals: &[u16; Goals::WORDS], place: Place) -> GoalStatus
     requires { ⌜ Within (now goals) ⌝ }
-    ensures { λ r. ⌜ (place .0 < countIn (now (goals .entry)) → LookedAt (now (goals .entry)) (place .0) r) ⌝ }
+    ensures { λ r. ⌜ (place .0 < countIn (now (goals .entry)) → StatusAt (now (goals .entry)) (place .0) r) ⌝ }
 {
     if place.0 < count_of(goals) {
         let goal = entry_at(goals, place);
         let free = is_free(goals, place);
-        return Seen {
+        return GoalStatus {
             goal: goal,
             free: free,
         };
     }
     let goal = Entry::none();
-    Seen {
+    GoalStatus {
         goal: goal,
         free: false,
     }
@@ -407,7 +407,7 @@ pub fn look(goals: &[u16; Goals::WORDS], place: Place) -> Seen
 // Some waiting goal is free.
 pub fn any_free(goals: &[u16; Goals::WORDS]) -> bool
     requires { ⌜ Within (now goals) ⌝ }
-    ensures { λ r. ⌜ ((shop order : List ℕ) → Counted (listIn shop order (now (goals .entry))) (countsIn (now (goals .entry))) → r ≡ anyFree (listIn shop order (now (goals .entry)))) ⌝ }
+    ensures { λ r. ⌜ ((shop order : List ℕ) → PendingCounts (listIn shop order (now (goals .entry))) (countsIn (now (goals .entry))) → r ≡ anyFree (listIn shop order (now (goals .entry)))) ⌝ }
 {
     let count = count_of(goals);
     let mut i: u16 = 0;

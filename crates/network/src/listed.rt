@@ -10,14 +10,14 @@ ghost use mathlib.Core.Bool.{cond};
 ghost use mathlib.Core.List.{zipWith};
 ghost use lib.ListN.{length};
 ghost use Rattle.hgn.specs.Tag as Tag;
-ghost use Rattle.hgn.specs.Rows.{row, valuesOf};
+ghost use Rattle.hgn.specs.Rows.{row, valuesTagged};
 ghost use Rattle.hgn.specs.Network.{isParent};
 ghost use Rattle.network.specs.Entries.{nameOf, waitingOf};
-ghost use Rattle.network.specs.Pending.{occurrences, listed};
+ghost use Rattle.network.specs.Pending.{occurrences, timesListed};
 
 // How often the number stands in the 11 rows of a node.
-fn named(tags: &[u16], values: &[u16], number: u16) -> usize
-    ensures { λ r. ⌜ r ≡ occurrences number (valuesOf Tag.after (zipWith row (now (tags .entry)) (now (values .entry)))) ⌝ }
+fn occurrences_of(tags: &[u16], values: &[u16], number: u16) -> usize
+    ensures { λ r. ⌜ r ≡ occurrences number (valuesTagged Tag.after (zipWith row (now (tags .entry)) (now (values .entry)))) ⌝ }
 {
     let n = part::rows(tags, values);
     let mut found = 0;
@@ -35,8 +35,8 @@ fn named(tags: &[u16], values: &[u16], number: u16) -> usize
 }
 
 // The number of 11 rows of a node.
-fn afters(tags: &[u16], values: &[u16]) -> usize
-    ensures { λ r. ⌜ r ≡ length (valuesOf Tag.after (zipWith row (now (tags .entry)) (now (values .entry)))) ⌝ }
+fn count_afters(tags: &[u16], values: &[u16]) -> usize
+    ensures { λ r. ⌜ r ≡ length (valuesTagged Tag.after (zipWith row (now (tags .entry)) (now (values .entry)))) ⌝ }
 {
     let n = part::rows(tags, values);
     let mut found = 0;
@@ -62,7 +62,7 @@ pub fn in_network<'a>(shop: &'a [u16], order: &'a [u16], goal: Entry) -> usize
     let rows = goal.rows;
     let tags = index::tags_of(rows, shop, order);
     let values = index::values_of(rows, shop, order);
-    afters(tags, values)
+    count_afters(tags, values)
 }
 
 // How often the goal is listed after the node of its network with this number.
@@ -79,7 +79,7 @@ fn after_node<'a>(shop: &'a [u16], order: &'a [u16], goal: Entry, number: u16) -
     let rows = goal.rows;
     let tags = index::tags_of(rows, shop, order);
     let values = index::values_of(rows, shop, order);
-    named(tags, values, number)
+    occurrences_of(tags, values, number)
 }
 
 // 1 if the other came with a method used at the goal of this name, else 0.
@@ -98,7 +98,7 @@ fn after_subgoal<'a>(shop: &'a [u16], order: &'a [u16], name: Name, other: Entry
 
 // How often the goal is listed after the other.
 pub fn times_listed<'a>(shop: &'a [u16], order: &'a [u16], goal: Entry, other: Entry) -> usize
-    ensures { λ r. ⌜ r ≡ listed (waitingOf (now (shop .entry)) (now (order .entry)) goal) (waitingOf (now (shop .entry)) (now (order .entry)) other) ⌝ }
+    ensures { λ r. ⌜ r ≡ timesListed (waitingOf (now (shop .entry)) (now (order .entry)) goal) (waitingOf (now (shop .entry)) (now (order .entry)) other) ⌝ }
 {
     let name = goal.name;
     let theirs = other.name;

@@ -3,7 +3,7 @@ use sheet_check::rows::Row;
 use sheet_index::index::Span;
 use sheet_rows::position::Sheet;
 ghost use mathlib.Core.Path.{_≡_};
-ghost use Rattle.network.specs.Entries.{sameName, noEntry};
+ghost use Rattle.network.specs.Entries.{sameEntryName, noEntry};
 
 // A place in the waiting list, from 0.
 pub struct Place(pub u16);
@@ -28,7 +28,7 @@ impl Name {
     pub const ORDER: u16 = 65535;
 
     pub fn same(self, other: Name) -> bool
-        ensures { λ r. ⌜ r ≡ sameName self other ⌝ }
+        ensures { λ r. ⌜ r ≡ sameEntryName self other ⌝ }
     {
         if self.origin == other.origin {
             return self.number == other.number;

@@ -8,7 +8,7 @@ use mathlib.Core.List.{List, [], _++_}
 use lib.ListN.{length, take, drop}
 use borrow.Author.Tests.{lt-leb}
 use Rattle.hgn.specs.Questions as Questions
-use Rattle.hgn.specs.Questions.{_asks_, Verdict, passed, refused, firstNo, told}
+use Rattle.hgn.specs.Questions.{_asks_, Verdict, passed, refused, firstNo, answered}
 use Rattle.hgn.specs.State.{State}
 use Rattle.hgn.specs.Run.{problemOf, Deed, Outcome, stopped, accepted, run, planOf}
 use Rattle.hgn.specs.Shop.{domain, actionCount, shopQuestions}
@@ -16,11 +16,11 @@ use Rattle.hgn.specs.Order.{order as meaning, orderQuestions}
 use Rattle.hgn.specs.Trace.{stepCount, stepsOf, traceQuestions, checkTrace}
 use Rattle.hgn.specs.Replay as Replay
 use Rattle.hgn.specs.Replay.{rulesOf, Replayed, refusal, acceptance, reported, inputQuestions, checkReplay, replay}
-use Rattle.hgn.proofs.Firsts.{append-passed, append-refused, refused-number, told-passed}
-use Rattle.hgn.proofs.Numbers.{of-trace, run-numbers, not-zero}
-use Rattle.hgn.proofs.Checked.{shop-of-order, order-of-trace, shop-counts}
-use Rattle.hgn.proofs.Replayed.{inputs-passed, replay-refused, replay-passed, verdictOf, run-first}
-use Rattle.hgn.proofs.Traces.{trace-sizes}
+use Rattle.hgn.proofs.Questions.FirstNo.{append-passed, append-refused, refused-number, answered-passed}
+use Rattle.hgn.proofs.Questions.Numbers.{of-trace, run-numbers, not-zero}
+use Rattle.hgn.proofs.Sheets.Checked.{shop-of-order, order-of-trace, shop-counts}
+use Rattle.hgn.proofs.Run.Replay.{inputs-passed, replay-refused, replay-passed, verdictOf, run-first}
+use Rattle.hgn.proofs.Sheets.Trace.{trace-sizes}
 use Rattle.sheet_check.proofs.Lookup.{length-part}
 use Rattle.sheet_rows.specs.Refusals.{refusalOf}
 use Rattle.sheet_rows.specs.declared.refusal.Refusal.{Refusal}
@@ -43,21 +43,21 @@ module _ (shop order trace room : List ℕ) where
   before-run q e r a = ap (λ (x : Replay.Answer). record { answer = x; room = room }) a ∙ sym (replay-refused shop order trace room q e)
 
   -- A sheet is refused.
-  pub sheet-refused : (v : Refusal) → refusalOf v ≡ told (checkTrace shop order trace) → v .number ≢ 0 → (r : Answer)
+  pub sheet-refused : (v : Refusal) → refusalOf v ≡ answered (checkTrace shop order trace) → v .number ≢ 0 → (r : Answer)
       → answerOf r ≡ refusal [] (refusalOf v) .answer → Gives r room
   unfolding checkReplay inputQuestions checkTrace
   sheet-refused v e z r a = go (checkTrace shop order trace) refl
     where
       go : (w : Verdict) → checkTrace shop order trace ≡ w → Gives r room
-      go passed w = absurd (z (ap (λ (x : Questions.Refusal). x .number) (e ∙ ap told w)))
+      go passed w = absurd (z (ap (λ (x : Questions.Refusal). x .number) (e ∙ ap answered w)))
       go (refused q) w =
           before-run q (append-refused (shopQuestions shop ++ orderQuestions shop order ++ traceQuestions trace) _ q w) r
-          (a ∙ ap (λ (x : Questions.Refusal). refusal [] x .answer) (e ∙ ap told w))
+          (a ∙ ap (λ (x : Questions.Refusal). refusal [] x .answer) (e ∙ ap answered w))
 
   -- A check that answers 0 has passed.
-  pub sheet-passes : (v : Refusal) → refusalOf v ≡ told (checkTrace shop order trace) → v .number ≡ 0 → checkTrace shop order trace ≡ passed
+  pub sheet-passes : (v : Refusal) → refusalOf v ≡ answered (checkTrace shop order trace) → v .number ≡ 0 → checkTrace shop order trace ≡ passed
   unfolding checkTrace
-  sheet-passes v e z = told-passed _ [] (refusalOf v) e (of-trace _ not-zero shop order trace) z
+  sheet-passes v e z = answered-passed _ [] (refusalOf v) e (of-trace _ not-zero shop order trace) z
 
   module _ (ok : checkTrace shop order trace ≡ passed) where
     -- The room is too short.

@@ -9,7 +9,7 @@ use lib.Dec.{eqb}
 use lib.ListN.{length, getD, length-take, length-map}
 use lib.Seq.{getD-take}
 use borrow.Author.Tests.{eqb-true, eqb-false}
-use Rattle.hgn.specs.Lists.{parts}
+use Rattle.hgn.specs.Lists.{splitAtEach}
 use Rattle.hgn.specs.Rows.{Row, row, has}
 use Rattle.hgn.specs.Tag as Tag
 use Rattle.hgn.specs.Meaning.{nodeOf, nodesOf, orderOf}
@@ -18,7 +18,7 @@ use Rattle.hgn.specs.Network.{enter, goalsOf, goalAt}
 use Rattle.hgn.specs.Questions.{passed}
 use Rattle.hgn.specs.Order as Order
 use Rattle.hgn.specs.Order.{orderRows}
-use Rattle.hgn.proofs.Checked.{order-count}
+use Rattle.hgn.proofs.Sheets.Checked.{order-count}
 use Rattle.sheet_rows.specs.declared.position.Sheet.the-variants as Of
 use Rattle.sheet_index.specs.Index.{ends, span, spanRows, spanOf}
 use Rattle.sheet_check.proofs.Lookup.{rows-at}
@@ -31,7 +31,7 @@ use Rattle.replay.specs.OrderTable.{OrderIndexed, firstRow}
 use Rattle.network.specs.Goals.{listIn, countsIn, nodeEntries, Begun}
 use Rattle.network.specs.declared.goals.Entering.{Entering}
 use Rattle.network.proofs.WaitingGoals.{list-length, list-at, count-at}
-use Rattle.network.proofs.Counted.{counted-first}
+use Rattle.network.proofs.PendingCounts.{counted-first}
 use Rattle.replay.specs.Running.{FirstGoals}
 use Rattle.network.proofs.Entered.{order-enters}
 use Rattle.sheet_index.proofs.NodeParts.{walk-nodes}
@@ -71,12 +71,12 @@ module _ {shop order table : List ℕ} (ix : OrderIndexed shop order table) wher
   part-is from to f t = order-columns shop order (ix .checked) from to f (omega (arith, long))
 
   -- A walk over the nodes from some row on has the order's goals, if those are all its nodes.
-  walked : (first : ℕ) → NodesFrom rows first n → parts (has Tag.node) (span rows 0 n) ≡ parts (has Tag.node) (span rows first n) → GoalsAt shop order table first
+  walked : (first : ℕ) → NodesFrom rows first n → splitAtEach (has Tag.node) (span rows 0 n) ≡ splitAtEach (has Tag.node) (span rows first n) → GoalsAt shop order table first
   unfolding nodesOf orderOf Order.order
   walked first w all =
       let v = walk-nodes rows table fit end-at part part-is first n (omega (arith, long)) w in
       let nodes : map (nodeAt shop order Of.Order) (v .list) ≡ Order.order order .goals =
-      sym (map-map nodeOf part (v .list)) ∙ ap (map nodeOf) (v .same ∙ sym all ∙ ap (parts (has Tag.node)) (order-whole shop order (ix .checked))) in
+      sym (map-map nodeOf part (v .list)) ∙ ap (map nodeOf) (v .same ∙ sym all ∙ ap (splitAtEach (has Tag.node)) (order-whole shop order (ix .checked))) in
       record {
         bs = v .list;
         walk = v .walked;
@@ -110,9 +110,9 @@ module _ {shop order table : List ℕ} (ix : OrderIndexed shop order table) wher
   goals-begun first a network ws o m b =
       let e : nodeEntries network (a .bs) ≡ entriesFrom Of.Order orderOrigin (network .parent) false (network .end .0) 0 (a .bs) = rw (o, m) refl in
       let list : listIn shop order ws ≡ goalsOf (Order.order order) =
-      ap (map (waitingOf shop order)) (b .goals ∙ e) ∙ order-enters shop order Of.Order (network .end .0) (a .bs) (network .parent) 0 ∙ ap (enter Network.order none 0) (a .nodes) in
+      ap (map (waitingOf shop order)) (b .goals ∙ e) ∙ order-enters shop order Of.Order (network .end .0) (a .bs) (network .parent) 0 ∙ ap (enter Network.from-order none 0) (a .nodes) in
       record {
-        kept = record {
+        valid = record {
           within = b .within;
           counted =
               counted-first shop order (ix .checked) list (sym (list-length shop order ws)) {c = countsIn ws} {r = countsIn ws} (record {

@@ -11,8 +11,8 @@ use Rattle.hgn.specs.Meaning.{Domain}
 use Rattle.hgn.specs.State.{State}
 use Rattle.hgn.specs.Run.{Step, Move, release, act, use-method, unknown, moveOf, Problem, Rules, Deed, deedOf, stepped, accepted, runBy, run, planOf}
 use Rattle.hgn.specs.Trace.{step}
-use Rattle.hgn.proofs.Steps.{taken-deed, taken-passed, step-passed}
-use Rattle.hgn.proofs.Runs.{resumes, ended-empty}
+use Rattle.hgn.proofs.Run.Steps.{taken-deed, taken-passed, step-passed}
+use Rattle.hgn.proofs.Run.Runs.{resumes, ended-empty}
 use Rattle.sheet_index.proofs.Spans.{by-test}
 use Rattle.replay.specs.Answers.{actionMoves}
 

@@ -9,9 +9,9 @@ use lib.Seq.{drop-cons}
 use Rattle.hgn.specs.Questions.{Refusal, placed}
 use Rattle.hgn.specs.State.{State}
 use Rattle.hgn.specs.Run.{Step, Problem, Rules, Deed, refused, taken, stepped, Outcome, stopped, accepted, prepend, ended, runBy, run, planOf, costOf}
-use Rattle.hgn.proofs.Runs.{resumed, run-cons}
-use Rattle.hgn.proofs.Cuts.{plan-append}
-use Rattle.hgn.proofs.Costs.{cost-append}
+use Rattle.hgn.proofs.Run.Runs.{resumed, run-cons}
+use Rattle.hgn.proofs.Join.Cut.{plan-append}
+use Rattle.hgn.proofs.Run.Costs.{cost-append}
 
 -- What several steps did, in front of what the rest of the run did.
 unfoldable pub prependAll : List Deed → Outcome → Outcome

@@ -55,4 +55,4 @@ module _ (shop order trace : List ℕ) (fits : 1 + (stepCount trace + stepCount 
 
 -- The first step is 0, from any state.
 pub going-first : {shop order : List ℕ} (s : State) {ws : List ℕ} → FirstGoals shop order ws → Going shop order 0 s ws
-going-first s f = record { kept = f .kept; reached = reached-first s (f .list) }
+going-first s f = record { valid = f .valid; reached = reached-first s (f .list) }

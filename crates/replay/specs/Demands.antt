@@ -4,7 +4,7 @@ use Prim.Native.Nat.{ℕ}
 use mathlib.Core.Path.{_≡_}
 use mathlib.Core.List.{List}
 use Rattle.hgn.specs.Replay.{replay}
-use Rattle.hgn.specs.Demands.{InputsPass, ReplayAnswers, IsDefinition1, Call}
+use Rattle.hgn.specs.Demands.{InputsPass, ReplayAnswers, IsDefinition1, ReplayCall}
 use Rattle.hgn.specs.Demands as Demands
 use Rattle.replay.specs.Answers.{replayedOf}
 use Rattle.replay.specs.declared.answer.Answer.{Answer}
@@ -17,7 +17,7 @@ Replays shop sheet trace room r exit = replayedOf r exit ≡ replay shop sheet t
 pub record OfCall (shop sheet trace room : List ℕ) (r : Answer) (exit : List ℕ) : Type 0 where
   pub demand-1 : ReplayAnswers shop sheet trace room (replayedOf r exit)
   pub demand-2 : IsDefinition1 shop sheet trace room (replayedOf r exit)
-  pub is-call : InputsPass shop sheet trace room → (k : Call shop sheet trace) × (k .result ≡ replayedOf r exit) × (k .room ≡ room)
+  pub is-call : InputsPass shop sheet trace room → (k : ReplayCall shop sheet trace) × (k .result ≡ replayedOf r exit) × (k .room ≡ room)
 
 pub record Promised : Type 1 where
   pub of-call : (shop sheet trace room : List ℕ) (r : Answer) (exit : List ℕ) → Replays shop sheet trace room r exit

@@ -9,7 +9,7 @@ use Rattle.hgn.specs.Shop.{domain}
 use Rattle.hgn.specs.Order as OrderSheet
 use Rattle.sheet_index.specs.Tables.{Indexed}
 use Rattle.network.specs.Goals.{listIn}
-use Rattle.step.specs.Taking.{Kept}
+use Rattle.step.specs.Taking.{ValidGoals}
 use Rattle.step.specs.declared.moves.Move.{Move}
 use Rattle.step.specs.declared.moves.Move.the-variants.{Release, Act, Use}
 use Rattle.step.specs.declared.problem.Problem.{Problem}
@@ -17,7 +17,7 @@ use Rattle.replay.specs.declared.run.Totals.{Totals}
 
 -- The order's goals are all that waits.
 pub record FirstGoals (shop order ws : List ℕ) : Type 0 where
-  pub kept : Kept shop order ws
+  pub valid : ValidGoals shop order ws
   pub list : listIn shop order ws ≡ goalsOf (OrderSheet.order order)
 
 -- The first record: the atoms true at the start, and the order's goals; and the shop's table beside it.

@@ -69,7 +69,7 @@ fn index_order<'a>(shop: &'a [u16], order: &'a [u16], tables: &mut [u16])
     ensures { λ _. ⌜ OrderIndexed (now (shop .entry)) (now (order .entry)) (now (tables .exit)) × (length (now (tables .exit)) ≡ length (now (tables .entry))) ⌝ }
 {
     let rows = index::layout_of(Sheet::Order, order);
-    index::fill(order, rows, tables, 0);
+    index::fill_tables(order, rows, tables, 0);
 }
 
 // The table of the shop.
@@ -80,7 +80,7 @@ fn index_shop<'a>(shop: &'a [u16], order: &'a [u16], tables: &mut [u16])
     let sizes = ShopSizes::of(shop);
     let operators = sizes.actions as usize + sizes.methods as usize;
     let rows = index::layout_of(Sheet::Shop, shop);
-    index::fill(shop, rows, tables, operators);
+    index::fill_tables(shop, rows, tables, operators);
 }
 
 // The order's goals, in listed order, are all that waits.

@@ -84,7 +84,7 @@ pub fn run<'a>(
             Decision::Refused(refusal) => {
                 return Answer::refused(refusal.at(number));
             }
-            Decision::Takes(known) => {
+            Decision::Allowed(known) => {
                 totals = totals.with(shop, tables, known);
             }
         }

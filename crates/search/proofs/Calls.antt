@@ -8,13 +8,13 @@ use mathlib.Core.Option.{Option}
 use lib.ListN.{length}
 use borrow.Author.Tests.{lt-leb, le-leb}
 use Rattle.hgn.specs.Questions as Questions
-use Rattle.hgn.specs.Questions.{noRefusal, _asks_, placed, Verdict, passed, refused, firstNo, told}
+use Rattle.hgn.specs.Questions.{noRefusal, _asks_, placed, Verdict, passed, refused, firstNo, answered}
 use Rattle.hgn.specs.Run.{Step}
 use Rattle.hgn.specs.Order.{checkOrder}
 use Rattle.hgn.specs.Search.{Searched, isFound, stepsFound, searched, noTrace, written, mostDepth, searchQuestions, search}
-use Rattle.hgn.proofs.Firsts.{told-passed}
-use Rattle.hgn.proofs.Numbers.{of-order, not-zero}
-use Rattle.hgn.proofs.Searches.{search-refused, search-passed, sheets-refused, depth-refused, room-refused, inputs-searched}
+use Rattle.hgn.proofs.Questions.FirstNo.{answered-passed}
+use Rattle.hgn.proofs.Questions.Numbers.{of-order, not-zero}
+use Rattle.hgn.proofs.Search.Search.{search-refused, search-passed, sheets-refused, depth-refused, room-refused, inputs-searched}
 use Rattle.sheet_rows.specs.Refusals.{refusalOf}
 use Rattle.sheet_rows.specs.declared.refusal.Refusal.{Refusal}
 use Rattle.search.specs.Founds.{searchedOf, shortestOf, traceOf}
@@ -35,17 +35,17 @@ module _ (shop sheet : List ℕ) (depth : ℕ) (room : List ℕ) where
   refuses q e r a = ap (λ (x : Questions.Refusal). answer x room) a ∙ sym (search-refused shop sheet depth room q e)
 
   -- A sheet is refused.
-  pub sheet-refused : (r : Refusal) → refusalOf r ≡ told (checkOrder shop sheet) → r .number ≢ 0 → Gives r room
+  pub sheet-refused : (r : Refusal) → refusalOf r ≡ answered (checkOrder shop sheet) → r .number ≢ 0 → Gives r room
   sheet-refused r e z = go (checkOrder shop sheet) refl
     where
       go : (v : Verdict) → checkOrder shop sheet ≡ v → Gives r room
-      go passed w = absurd (z (ap (λ (x : Questions.Refusal). x .number) (e ∙ ap told w)))
-      go (refused q) w = refuses q (sheets-refused shop sheet depth room q w) r (e ∙ ap told w)
+      go passed w = absurd (z (ap (λ (x : Questions.Refusal). x .number) (e ∙ ap answered w)))
+      go (refused q) w = refuses q (sheets-refused shop sheet depth room q w) r (e ∙ ap answered w)
 
   -- A check that answers 0 has passed.
-  pub sheet-passes : (r : Refusal) → refusalOf r ≡ told (checkOrder shop sheet) → r .number ≡ 0 → checkOrder shop sheet ≡ passed
+  pub sheet-passes : (r : Refusal) → refusalOf r ≡ answered (checkOrder shop sheet) → r .number ≡ 0 → checkOrder shop sheet ≡ passed
   unfolding checkOrder
-  sheet-passes r e z = told-passed _ [] (refusalOf r) e (of-order _ not-zero shop sheet) z
+  sheet-passes r e z = answered-passed _ [] (refusalOf r) e (of-order _ not-zero shop sheet) z
 
   module _ (ok : checkOrder shop sheet ≡ passed) where
     -- The depth is too large.

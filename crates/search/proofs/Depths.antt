@@ -8,19 +8,19 @@ use mathlib.Core.List.{List}
 use mathlib.Core.Option.{Option, none, some}
 use lib.Dec.{leb}
 use borrow.Author.Tests.{leb-true, leb-false}
-use Rattle.hgn.specs.Lists.{from, firstSome}
+use Rattle.hgn.specs.Lists.{range, firstSome}
 use Rattle.hgn.specs.Run.{Step, Problem, Rules}
 use Rattle.search_theory.specs.Pruned.{prunedOf, noStep, prunedShortest}
 use Rattle.search.specs.Founds.{stepsFrom, foundOf, Finds}
 use Rattle.search.specs.declared.found.Found.{Found}
 
 module _ {B : Type 0} (f : ℕ → Option B) (i k : ℕ) where
-  some-here : (y : B) → f i ≡ some y → firstSome f (from i (suc k)) ≡ some y
-  unfolding from firstSome
+  some-here : (y : B) → f i ≡ some y → firstSome f (range i (suc k)) ≡ some y
+  unfolding range firstSome
   some-here y e = rw (e, firstSome)
 
-  none-here : f i ≡ none → firstSome f (from i (suc k)) ≡ firstSome f (from (suc i) k)
-  unfolding from firstSome
+  none-here : f i ≡ none → firstSome f (range i (suc k)) ≡ firstSome f (range (suc i) k)
+  unfolding range firstSome
   none-here e = rw (e, firstSome)
 
 -- What a search of one length told is what there is to find.
@@ -41,17 +41,17 @@ module _ (depth : ℕ) (r : Rules) (P : Problem) where
 
   -- No trace of fewer than `i` steps is found.
   abbrev pub NoneBelow : ℕ → Type 0
-  NoneBelow i = prunedShortest depth r P ≡ firstSome atDepth (from i (suc depth - i))
+  NoneBelow i = prunedShortest depth r P ≡ firstSome atDepth (range i (suc depth - i))
 
   none-below : NoneBelow 0
   unfolding prunedShortest
-  none-below = let q : suc depth ≡ suc depth - 0 = omega arith in ap {B = Option (List Step)} (λ (k : ℕ). firstSome atDepth (from 0 k)) q
+  none-below = let q : suc depth ≡ suc depth - 0 = omega arith in ap {B = Option (List Step)} (λ (k : ℕ). firstSome atDepth (range 0 k)) q
 
   module _ (i : ℕ) (h : i ≤ depth) (below : NoneBelow i) (f : Found) (e : foundOf 0 i f ≡ atDepth i) where
-    counted : prunedShortest depth r P ≡ firstSome atDepth (from i (suc (depth - i)))
+    counted : prunedShortest depth r P ≡ firstSome atDepth (range i (suc (depth - i)))
     counted =
         let q : suc depth - i ≡ suc (depth - i) = omega arith in
-        below ∙ ap {B = Option (List Step)} (λ (k : ℕ). firstSome atDepth (from i k)) q
+        below ∙ ap {B = Option (List Step)} (λ (k : ℕ). firstSome atDepth (range i k)) q
 
     pub found-first : f .found ≡ true → foundOf 0 i f ≡ prunedShortest depth r P
     found-first b =
@@ -64,24 +64,24 @@ module _ (depth : ℕ) (r : Rules) (P : Problem) where
         let p : suc i ≡ i + 1 = omega arith in
         let q : depth - i ≡ suc depth - (i + 1) = omega arith in
         counted ∙ none-here atDepth i (depth - i) (sym e ∙ is)
-        ∙ ap {B = Option (List Step)} (λ (j : ℕ). firstSome atDepth (from j (depth - i))) p
-        ∙ ap {B = Option (List Step)} (λ (k : ℕ). firstSome atDepth (from (i + 1) k)) q
+        ∙ ap {B = Option (List Step)} (λ (j : ℕ). firstSome atDepth (range j (depth - i))) p
+        ∙ ap {B = Option (List Step)} (λ (k : ℕ). firstSome atDepth (range (i + 1) k)) q
 
   none-next : (i : ℕ) → NoneBelow i → atDepth i ≡ none → NoneBelow (suc i)
-  unfolding from firstSome
+  unfolding range firstSome
   none-next i below e = go (leb i depth) refl
     where
       go : (b : Bool) → leb i depth ≡ b → NoneBelow (suc i)
       go true h =
           let p : i ≤ depth = leb-true i depth h in
           let q : suc depth - i ≡ suc (suc depth - suc i) = omega arith in
-          below ∙ ap {B = Option (List Step)} (λ (k : ℕ). firstSome atDepth (from i k)) q ∙ none-here atDepth i (suc depth - suc i) e
+          below ∙ ap {B = Option (List Step)} (λ (k : ℕ). firstSome atDepth (range i k)) q ∙ none-here atDepth i (suc depth - suc i) e
       go false h =
           let p : depth < i = leb-false i depth h in
           let q : suc depth - i ≡ 0 = omega arith in
           let z : 0 ≡ suc depth - suc i = omega arith in
-          below ∙ ap {B = Option (List Step)} (λ (k : ℕ). firstSome atDepth (from i k)) q
-          ∙ ap {B = Option (List Step)} (λ (k : ℕ). firstSome atDepth (from (suc i) k)) z
+          below ∙ ap {B = Option (List Step)} (λ (k : ℕ). firstSome atDepth (range i k)) q
+          ∙ ap {B = Option (List Step)} (λ (k : ℕ). firstSome atDepth (range (suc i) k)) z
 
   -- Where none of fewer than `i` steps is found, the search may begin there.
   pub none-from : (i : ℕ) → ((k : ℕ) → k < i → atDepth k ≡ none) → NoneBelow i
@@ -90,11 +90,11 @@ module _ (depth : ℕ) (r : Rules) (P : Problem) where
 
   -- None at all.
   pub none-found : (i : ℕ) → depth < i → NoneBelow i → (f : Found) → f .found ≡ false → foundOf 0 depth f ≡ prunedShortest depth r P
-  unfolding from firstSome
+  unfolding range firstSome
   none-found i h below f b =
       let q : suc depth - i ≡ 0 = omega arith in
       let is : foundOf 0 depth f ≡ none = rw b refl in
-      is ∙ sym (below ∙ ap {B = Option (List Step)} (λ (k : ℕ). firstSome atDepth (from i k)) q)
+      is ∙ sym (below ∙ ap {B = Option (List Step)} (λ (k : ℕ). firstSome atDepth (range i k)) q)
 
   -- None of this length and of every longer one.
   pub none-longer : (m i : ℕ) → depth < i + m → NoneBelow i → ((k : ℕ) → i ≤ k → atDepth k ≡ none) → (f : Found) → f .found ≡ false

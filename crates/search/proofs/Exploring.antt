@@ -18,8 +18,8 @@ use Rattle.hgn.specs.Shop.{domain, actionCount, methodCount, checkShop}
 use Rattle.hgn.specs.Trace.{step}
 use Rattle.hgn.specs.Replay.{rulesOf}
 use Rattle.hgn.specs.Search.{movesOf, noSteps}
-use Rattle.hgn.proofs.Tests.{false-not-true}
-use Rattle.hgn.proofs.Checked.{shop-counts}
+use Rattle.hgn.proofs.Logic.Tests.{false-not-true}
+use Rattle.hgn.proofs.Sheets.Checked.{shop-counts}
 use Rattle.step.specs.Moves.{Known, knownOf}
 use Rattle.sheet_index.specs.Tables.{Indexed}
 use Rattle.step.specs.declared.moves.Move.{Move}
@@ -37,15 +37,15 @@ use Rattle.search.proofs.Trying.{crowded-out, open-few, open-kept, open
 
 -- Which lengths are covered.
 module _ {left k : ℕ} where
-  pub covers-long : (cuts : ℕ) → Covers cuts left k → left ≤ k
-  covers-long cuts = ⊎-elim (λ e. omega arith) (λ h. h .1)
+  pub covers-long : (exhausted : ℕ) → Covers exhausted left k → left ≤ k
+  covers-long exhausted = ⊎-elim (λ e. omega arith) (λ h. h .1)
 
-  -- Where no more branches were cut, all lengths that another search covers.
-  pub covers-all : (cuts : ℕ) {less : ℕ} → less ≤ cuts → Covers cuts left k → Covers less left k
-  covers-all cuts e = ⊎-elim (λ h. inl h) (λ h. let z = h .0 in inr (omega arith, h .1))
+  -- Where no more branches ran out of steps, all lengths that another search covers.
+  pub covers-all : (exhausted : ℕ) {less : ℕ} → less ≤ exhausted → Covers exhausted left k → Covers less left k
+  covers-all exhausted e = ⊎-elim (λ h. inl h) (λ h. let z = h .0 in inr (omega arith, h .1))
 
-  -- Where a branch was cut, only its own.
-  pub covers-own : {cuts : ℕ} → 0 < cuts → Covers cuts left k → k ≡ left
+  -- Where a branch ran out of steps, only its own.
+  pub covers-own : {exhausted : ℕ} → 0 < exhausted → Covers exhausted left k → k ≡ left
   covers-own e = ⊎-elim (λ h. h) (λ h. let z = h .0 in absurd (omega arith))
 
 -- A test that was denied.
@@ -57,7 +57,7 @@ pub so : (b : Bool) → not b ≡ false → b ≡ true
 so true e = refl
 so false e = sym e
 
--- A move can tell nothing where a branch was cut before and the move is crowded.
+-- A move can tell nothing where a branch ran out of steps before and the move is crowded.
 pub cannot-tell : (b c : Bool) {r : Bool} → r ≡ cond b (not c) true → r ≡ false → (b ≡ true) × (c ≡ true)
 cannot-tell true true e f = (refl, refl)
 cannot-tell true false e f = absurd (false-not-true _ f e)
@@ -68,7 +68,7 @@ module _ {search : ℕ → Option (List Step)} {n left : ℕ} (r : Found) where
   pub finds-some : r .found ≡ true → search left ≡ some (stepsFrom n left r) → Finds search n left r
   finds-some h e = record { found = λ q. e; nothing = λ q. absurd (false-not-true _ q h) }
 
-  pub finds-none : r .found ≡ false → ((k : ℕ) → Covers (r .cuts) left k → search k ≡ none) → Finds search n left r
+  pub finds-none : r .found ≡ false → ((k : ℕ) → Covers (r .exhausted) left k → search k ≡ none) → Finds search n left r
   finds-none h e = record { found = λ q. absurd (false-not-true _ h q); nothing = λ q. e }
 
 module _ (f : Step → Option (List Step)) (d : Domain) where
@@ -169,13 +169,13 @@ module _ {shop order table : List ℕ} (ix : Indexed shop order table) {P₀ : P
   on-number : (k : ℕ) → onward k ≡ prunedOf k (rulesOf shop) P (stepOf x) (suc n) P′
   on-number k = ap {B = Option (List Step)} (λ (i : ℕ). prunedOf k (rulesOf shop) P (stepOf x) i P′) (add-one n)
 
-  pub follow-crowded : crowded (left - 1) (length (P .waiting)) (knownOf (x .mv)) ≡ true → (r : Found) → r .found ≡ false → 0 < r .cuts → Finds by-step n left r
+  pub follow-crowded : crowded (left - 1) (length (P .waiting)) (knownOf (x .mv)) ≡ true → (r : Found) → r .found ≡ false → 0 < r .exhausted → Finds by-step n left r
   follow-crowded e r f c =
       finds-none r f λ k v.
       let z = covers-own c v in
       ap {B = Option (List Step)} by-step z ∙ crowded-out ix P₀ y P x (o .taken .taking .known) (left - 1) n e
 
-  pub follow-short : Suffices shop P′ (left - 1) false → (r : Found) → r .found ≡ false → 0 < r .cuts → Finds by-step n left r
+  pub follow-short : Suffices shop P′ (left - 1) false → (r : Found) → r .found ≡ false → 0 < r .exhausted → Finds by-step n left r
   follow-short e r f c =
       finds-none r f λ k v.
       let z = covers-own c v in
@@ -189,7 +189,7 @@ module _ {shop order table : List ℕ} (ix : Indexed shop order table) {P₀ : P
         finds-none r f λ k v.
         open-none ix P₀ y P x (o .taken .taking .known) o (k - 1) n (sym (on-number (k - 1)) ∙ finds .nothing f (k - 1) (down k v))
       where
-        down : (k : ℕ) → Covers (r .cuts) left k → Covers (r .cuts) (left - 1) (k - 1)
+        down : (k : ℕ) → Covers (r .exhausted) left k → Covers (r .exhausted) (left - 1) (k - 1)
         down k = ⊎-elim (λ e. inl (omega arith)) (λ v. inr (v .0, let w = v .1 in omega arith))
 
     pub follow-some : r .found ≡ true → tooFewLeft (left - 1) P′ ≡ false → (w : Found) {move : ℕ} → move ≡ moveNumber (x .mv)

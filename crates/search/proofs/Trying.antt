@@ -17,8 +17,8 @@ use Rattle.hgn.specs.Network.{mostWaiting, free, goalAt}
 use Rattle.hgn.specs.Run.{Step, Move, moveOf, methodAt, Problem, Rules, Deed, Stepped, refused, taken, moved, stepped}
 use Rattle.hgn.specs.Shop.{domain, actionCount, methodCount}
 use Rattle.hgn.specs.Replay.{rulesOf}
-use Rattle.hgn.proofs.Steps.{Moved, by-release, by-action, by-method, took}
-use Rattle.hgn.proofs.Waits.{one-released, none-lost}
+use Rattle.hgn.proofs.Run.Steps.{Moved, by-release, by-action, by-method, took}
+use Rattle.hgn.proofs.Search.Waits.{one-released, none-lost}
 use Rattle.sheet_rows.specs.Refusals.{refusalOf}
 use Rattle.sheet_rows.specs.declared.refusal.Refusal as Code
 use Rattle.sheet_rows.proofs.Laws.{told}
@@ -34,11 +34,11 @@ use Rattle.step.specs.Taking.{problemWith}
 use Rattle.step.specs.declared.moves.Choice.{Choice}
 use Rattle.step.proofs.Bodies.{own-refuses, own-takes, own-room}
 use Rattle.step.proofs.Decided.{own-told}
-use Rattle.search_theory.specs.Rules.{idle, lowerToo, tooFewLeft, couldGoFirst, leftOut}
+use Rattle.search_theory.specs.Rules.{hasNoEffect, lowerToo, tooFewLeft, commutesWithLast, leftOut}
 use Rattle.search_theory.specs.Pruned.{behind, prunedOf}
 use Rattle.search_pruning.specs.Tests.{moveNumber, stepOf, crowded}
 use Rattle.search_pruning.proofs.Reading.{number-read}
-use Rattle.search.specs.Trials.{tried, Suffices, Taken, NotTaken, Open}
+use Rattle.search.specs.Trials.{tried, Suffices, Effective, NotEffective, Open}
 
 -- A move that was crowded leaves too few steps.
 crowded-after : {r : Rules} {n : ℕ} {P : Problem} {p : ℕ} (left : ℕ) {m : Move} {deed : Deed} {P′ : Problem} → p < length (P .waiting) → Moved r n P p m deed P′
@@ -47,7 +47,7 @@ unfolding crowded
 crowded-after {P = P} {p = p} left h (by-release a) e = omega (arith, ltb-true (left + 1) (length (P .waiting)) e, one-released (P .waiting) p h)
 crowded-after {P = P} left h (by-action a b) e = ltb-true left (length (P .waiting)) e
 crowded-after {r} {n} {P} {p} left h (by-method {m} a b c) e =
-    omega (arith, ltb-true left (length (P .waiting)) e, none-lost (P .waiting) p (Network.step n) (networkOf (methodAt (r .domain) m)) h)
+    omega (arith, ltb-true left (length (P .waiting)) e, none-lost (P .waiting) p (Network.from-step n) (networkOf (methodAt (r .domain) m)) h)
 
 -- A step `x` from `P`, with `k` steps left after it. The step before it was `y`, from `P₀`.
 module _ (r : Rules) (k : ℕ) (P₀ : Problem) (y : Step) (n : ℕ) (P : Problem) (x : Step) where
@@ -58,29 +58,29 @@ module _ (r : Rules) (k : ℕ) (P₀ : Problem) (y : Step) (n : ℕ) (P : Proble
   Out P′ b = leftOut r k P₀ y P x P′ ≡ b
 
   -- Each rule by itself leaves the step out.
-  idle-out : (P′ : Problem) → idle (r .domain) (P .state) m ≡ true → Out P′ true
+  no-effect-out : (P′ : Problem) → hasNoEffect (r .domain) (P .state) m ≡ true → Out P′ true
   unfolding leftOut
-  idle-out P′ e = rw e refl
+  no-effect-out P′ e = rw e refl
 
   lower-out : (P′ : Problem) → lowerToo r (P .waiting) (x .place) m ≡ true → Out P′ true
   unfolding leftOut
-  lower-out P′ e = rw (e, or-true (idle (r .domain) (P .state) m)) refl
+  lower-out P′ e = rw (e, or-true (hasNoEffect (r .domain) (P .state) m)) refl
 
   few-out : (P′ : Problem) → tooFewLeft k P′ ≡ true → Out P′ true
   unfolding leftOut
-  few-out P′ e = rw (e, or-true (lowerToo r (P .waiting) (x .place) m), or-true (idle (r .domain) (P .state) m)) refl
+  few-out P′ e = rw (e, or-true (lowerToo r (P .waiting) (x .place) m), or-true (hasNoEffect (r .domain) (P .state) m)) refl
 
-  first-out : (P′ : Problem) → couldGoFirst (r .domain) P₀ y x ≡ true → Out P′ true
+  first-out : (P′ : Problem) → commutesWithLast (r .domain) P₀ y x ≡ true → Out P′ true
   unfolding leftOut
   first-out P′ e =
-      rw (e, or-true (tooFewLeft k P′), or-true (lowerToo r (P .waiting) (x .place) m), or-true (idle (r .domain) (P .state) m)) refl
+      rw (e, or-true (tooFewLeft k P′), or-true (lowerToo r (P .waiting) (x .place) m), or-true (hasNoEffect (r .domain) (P .state) m)) refl
 
   few-count : (P′ : Problem) → k < length (P′ .waiting) → tooFewLeft k P′ ≡ true
   unfolding tooFewLeft
   few-count P′ h = rw (lt-ltb k (length (P′ .waiting)) h) refl
 
-  none-out : (P′ : Problem) → idle (r .domain) (P .state) m ≡ false → lowerToo r (P .waiting) (x .place) m ≡ false
-      → tooFewLeft k P′ ≡ false → couldGoFirst (r .domain) P₀ y x ≡ false → Out P′ false
+  none-out : (P′ : Problem) → hasNoEffect (r .domain) (P .state) m ≡ false → lowerToo r (P .waiting) (x .place) m ≡ false
+      → tooFewLeft k P′ ≡ false → commutesWithLast (r .domain) P₀ y x ≡ false → Out P′ false
   unfolding leftOut
   none-out P′ a b c e = rw (a, b, c, e) refl
 
@@ -114,7 +114,7 @@ module _ (r : Rules) (k : ℕ) (P₀ : Problem) (y : Step) (n : ℕ) (P : Proble
     unfolding behind
     few-none e = ap found t ∙ rw (few-out P′ e) refl
 
-    module _ (a : idle (r .domain) (P .state) m ≡ false) (b : lowerToo r (P .waiting) (x .place) m ≡ false) (c : couldGoFirst (r .domain) P₀ y x ≡ false) where
+    module _ (a : hasNoEffect (r .domain) (P .state) m ≡ false) (b : lowerToo r (P .waiting) (x .place) m ≡ false) (c : commutesWithLast (r .domain) P₀ y x ≡ false) where
       kept : tooFewLeft k P′ ≡ false → tried k r P₀ y n P x ≡ Option·map (λ xs. x ∷ xs) (next P′)
       unfolding behind
       kept e = ap found t ∙ rw (none-out P′ a b e c) refl
@@ -136,14 +136,14 @@ module _ {shop order table : List ℕ} (ix : Indexed shop order table) (P₀ : P
   Tried k n o = tried k (rulesOf shop) P₀ y n P (stepOf x) ≡ o
 
   -- Nothing is found with it, however many steps are left.
-  pub closed-untaken : NotTaken shop P x → (k n : ℕ) → Tried k n none
+  pub closed-untaken : NotEffective shop P x → (k n : ℕ) → Tried k n none
   closed-untaken h k n =
       ⊎-elim
-      (λ i. out (rulesOf shop) k P₀ y n P (stepOf x) λ deed P′ t. idle-out (rulesOf shop) k P₀ y n P (stepOf x) P′ (ap (idle (domain shop) (P .state)) reads ∙ i))
+      (λ i. out (rulesOf shop) k P₀ y n P (stepOf x) λ deed P′ t. no-effect-out (rulesOf shop) k P₀ y n P (stepOf x) P′ (ap (hasNoEffect (domain shop) (P .state)) reads ∙ i))
       (λ f. refused-none (rulesOf shop) k P₀ y n P (stepOf x) (f n .0) (f n .1))
       h
 
-  pub closed-first : couldGoFirst (domain shop) P₀ y (stepOf x) ≡ true → (k n : ℕ) → Tried k n none
+  pub closed-first : commutesWithLast (domain shop) P₀ y (stepOf x) ≡ true → (k n : ℕ) → Tried k n none
   closed-first h k n = out (rulesOf shop) k P₀ y n P (stepOf x) λ deed P′ t. first-out (rulesOf shop) k P₀ y n P (stepOf x) P′ h
 
   pub closed-lower : lowerToo (rulesOf shop) (P .waiting) (x .place .0) (knownOf (x .mv)) ≡ true → (k n : ℕ) → Tried k n none
@@ -163,8 +163,8 @@ module _ {shop order table : List ℕ} (ix : Indexed shop order table) (P₀ : P
     abbrev onward : Option (List Step)
     onward = prunedOf k (rulesOf shop) P (stepOf x) (suc n) P′
 
-    not-idle : idle (domain shop) (P .state) (moveOf (domain shop) (moveNumber (x .mv))) ≡ false
-    not-idle = ap (idle (domain shop) (P .state)) reads ∙ o .taken .changes
+    has-effect : hasNoEffect (domain shop) (P .state) (moveOf (domain shop) (moveNumber (x .mv))) ≡ false
+    has-effect = ap (hasNoEffect (domain shop) (P .state)) reads ∙ o .taken .changes
 
     not-lower : lowerToo (rulesOf shop) (P .waiting) (x .place .0) (moveOf (domain shop) (moveNumber (x .mv))) ≡ false
     not-lower = ap (lowerToo (rulesOf shop) (P .waiting) (x .place .0)) reads ∙ o .lowest
@@ -173,10 +173,10 @@ module _ {shop order table : List ℕ} (ix : Indexed shop order table) (P₀ : P
     open-few e = few-none (rulesOf shop) k P₀ y n P (stepOf x) (o .taken .taking .comes n) e
 
     pub open-kept : tooFewLeft k P′ ≡ false → Tried k n (Option·map (λ xs. stepOf x ∷ xs) onward)
-    open-kept e = kept (rulesOf shop) k P₀ y n P (stepOf x) (o .taken .taking .comes n) not-idle not-lower (o .in-order) e
+    open-kept e = kept (rulesOf shop) k P₀ y n P (stepOf x) (o .taken .taking .comes n) has-effect not-lower (o .in-order) e
 
     pub open-none : onward ≡ none → Tried k n none
-    open-none e = no-more (rulesOf shop) k P₀ y n P (stepOf x) (o .taken .taking .comes n) not-idle not-lower (o .in-order) e
+    open-none e = no-more (rulesOf shop) k P₀ y n P (stepOf x) (o .taken .taking .comes n) has-effect not-lower (o .in-order) e
 
 -- Whether so many steps may suffice, by a number that no accepted trace goes below.
 pub suffices-least : (shop : List ℕ) (P : Problem) (least left : ℕ) → tooFewLeft left P ≡ false
@@ -208,7 +208,7 @@ module _ {shop order table : List ℕ} (ix : Indexed shop order table) (s : Stat
   below : x .place .0 < length (P .waiting)
   below = rw (list-length shop order ws) inside
 
-  pub not-taken : (q .number ≡ 0 → ⊥) → NotTaken shop P x
+  pub not-taken : (q .number ≡ 0 → ⊥) → NotEffective shop P x
   not-taken z =
       inr λ n. (
         refusalOf q,
@@ -216,12 +216,12 @@ module _ {shop order table : List ℕ} (ix : Indexed shop order table) (s : Stat
             (own-told (rulesOf shop) n (x .place .0) P (x .mv) (refusalOf q) (said n P (x .place .0) faces) .1 z .0),
       )
 
-  pub is-taken : q .number ≡ 0 → idle (domain shop) s (knownOf (x .mv)) ≡ false → Taken shop P x
+  pub is-taken : q .number ≡ 0 → hasNoEffect (domain shop) s (knownOf (x .mv)) ≡ false → Effective shop P x
   is-taken z i = record {
     taking = record {
       inside = below;
       known = known;
-      room = rw (list-length shop order ws ∙ sym counts)
+      fits = rw (list-length shop order ws ∙ sym counts)
           (own-room shop order s (goal .rows) count mostWaiting 0 (x .place .0) P faces (omega arith) (x .mv)
           (own-told (rulesOf shop) 0 (x .place .0) P (x .mv) (refusalOf q) (said 0 P (x .place .0) faces) .0 z));
       comes = λ n.

@@ -24,14 +24,14 @@ unfolding zipWith
 stepsFrom n k f = zipWith step (take k (drop n (f .moves))) (take k (drop n (f .places)))
 
 -- For which lengths a search of `left` steps that found nothing tells that there is nothing: for its own, and for every longer one where
--- no branch was cut for want of steps.
+-- no branch ran out of steps.
 abbrev pub Covers : ℕ → ℕ → ℕ → Type 0
-Covers cuts left k = (k ≡ left) ⊎ ((cuts ≡ 0) × (left ≤ k))
+Covers exhausted left k = (k ≡ left) ⊎ ((exhausted ≡ 0) × (left ≤ k))
 
 -- What a search told, from step `n` on with `left` steps: `search k` is what there is to find with k.
 pub record Finds (search : ℕ → Option (List Step)) (n left : ℕ) (r : Found) : Type 0 where
   pub found : r .found ≡ true → search left ≡ some (stepsFrom n left r)
-  pub nothing : r .found ≡ false → (k : ℕ) → Covers (r .cuts) left k → search k ≡ none
+  pub nothing : r .found ≡ false → (k : ℕ) → Covers (r .exhausted) left k → search k ≡ none
 
 abbrev pub foundOf : ℕ → ℕ → Found → Option (List Step)
 foundOf n k f = cond (f .found) (some (stepsFrom n k f)) none

@@ -29,12 +29,12 @@ ghost use Rattle.search.specs.Founds.{Finds};
 ghost use Rattle.search.specs.Trials.{firstNode, Lent, Stands, Open, tried};
 
 // Where a search stands: the last step, how many steps are left, the number of the next, and how many branches
-// were cut before it for want of steps.
+// ran out of steps before it.
 pub struct Node {
     pub last: Choice,
     pub left: u16,
     pub number: u16,
-    pub cuts: u16,
+    pub exhausted: u16,
 }
 
 impl Node {
@@ -49,7 +49,7 @@ impl Node {
             },
             left: left,
             number: 0,
-            cuts: 0,
+            exhausted: 0,
         }
     }
 }
@@ -78,10 +78,10 @@ pub fn places<'a>(
         if count == 0 {
             return Found::end();
         }
-        return Found::cut(node.cuts);
+        return Found::run_out(node.exhausted);
     }
     let last = node.last;
-    let mut cuts = node.cuts;
+    let mut exhausted = node.exhausted;
     let mut i: u16 = 0;
     while i < count {
         let place = Place(i);
@@ -91,7 +91,7 @@ pub fn places<'a>(
                 last: last,
                 left: left,
                 number: node.number,
-                cuts: cuts,
+                exhausted: exhausted,
             };
             let r = moves(
                 shop,
@@ -108,12 +108,12 @@ pub fn places<'a>(
             if r.found {
                 return r;
             }
-            if cuts < r.cuts {
-                cuts = r.cuts;
+            if exhausted < r.exhausted {
+                exhausted = r.exhausted;
             }
         }
     }
-    Found::none(cuts)
+    Found::none(exhausted)
 }
 
 // The first trace of so many steps whose first is taken at this free goal, none of its steps left out.
@@ -141,7 +141,7 @@ fn moves<'a>(
     let count = goals::count_of(goals);
     let last = node.last;
     let left = node.left;
-    let mut cuts = node.cuts;
+    let mut exhausted = node.exhausted;
     let mut i: u16 = 0;
     while i <= all {
         let mv = moves::nth(i, sizes.actions);
@@ -150,7 +150,7 @@ fn moves<'a>(
             mv: mv,
             place: place,
         };
-        if trial::can_tell(cuts, left - 1, count, mv) {
+        if trial::can_tell(exhausted, left - 1, count, mv) {
             if trial::is_open(
                 shop,
                 order,
@@ -166,19 +166,19 @@ fn moves<'a>(
                     last: last,
                     left: left,
                     number: node.number,
-                    cuts: cuts,
+                    exhausted: exhausted,
                 };
                 let r = follow(shop, order, tables, table, atoms, goals, here, choice);
                 if r.found {
                     return r;
                 }
-                if cuts < r.cuts {
-                    cuts = r.cuts;
+                if exhausted < r.exhausted {
+                    exhausted = r.exhausted;
                 }
             }
         }
     }
-    Found::none(cuts)
+    Found::none(exhausted)
 }
 
 // The first trace of so many steps whose first is this open step, none of its steps left out.
@@ -203,7 +203,7 @@ fn follow<'a>(
     let number = node.number;
     let mv = choice.mv;
     if rules::crowded(left, goals::count_of(goals), mv) {
-        return Found::cut(node.cuts);
+        return Found::run_out(node.exhausted);
     }
     let mut next_atoms = *atoms;
     let mut next_goals = *goals;
@@ -220,10 +220,10 @@ fn follow<'a>(
         last: choice,
         left: left,
         number: number + 1,
-        cuts: node.cuts,
+        exhausted: node.exhausted,
     };
     if !trial::may_suffice(shop, order, tables, table, &next_atoms, &next_goals, next) {
-        return Found::cut(node.cuts);
+        return Found::run_out(node.exhausted);
     }
     let r = places(
         shop,

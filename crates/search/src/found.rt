@@ -9,18 +9,18 @@ ghost use Rattle.search.specs.Founds.{stepsFrom};
 ghost use Rattle.hgn.specs.Search.{mostDepth};
 
 // Whether a trace was found; its moves and places, each at the number of its step; if none was found, how many branches
-// were cut for want of steps, as far as they are counted.
+// ran out of steps, as far as they are counted.
 pub struct Found {
     pub found: bool,
     pub moves: [u16; Found::MOST as usize],
     pub places: [u16; Found::MOST as usize],
-    pub cuts: u16,
+    pub exhausted: u16,
 }
 
 impl Found {
     // The most steps of a search.
     pub const MOST: u32 = 32;
-    // Cut branches are counted so far: a search with so many is a long one.
+    // Branches that ran out of steps are counted so far: a search with so many is a long one.
     pub const MANY: u16 = 64;
 
     // A trace of no steps.
@@ -31,30 +31,30 @@ impl Found {
             found: true,
             moves: [0; Found::MOST as usize],
             places: [0; Found::MOST as usize],
-            cuts: 0,
+            exhausted: 0,
         }
     }
 
-    // No trace, and how many branches were cut for want of steps.
-    pub fn none(cuts: u16) -> Found
-        ensures { λ r. ⌜ (r .found ≡ false) × (r .cuts ≡ cuts) ⌝ }
+    // No trace, and how many branches ran out of steps.
+    pub fn none(exhausted: u16) -> Found
+        ensures { λ r. ⌜ (r .found ≡ false) × (r .exhausted ≡ exhausted) ⌝ }
     {
         Found {
             found: false,
             moves: [0; Found::MOST as usize],
             places: [0; Found::MOST as usize],
-            cuts: cuts,
+            exhausted: exhausted,
         }
     }
 
-    // No trace: this branch is cut for want of steps, after so many others.
-    pub fn cut(cuts: u16) -> Found
-        ensures { λ r. ⌜ (r .found ≡ false) × (0 < r .cuts) ⌝ }
+    // No trace: this branch runs out of steps, after so many others.
+    pub fn run_out(exhausted: u16) -> Found
+        ensures { λ r. ⌜ (r .found ≡ false) × (0 < r .exhausted) ⌝ }
     {
-        if cuts < Found::MANY {
-            return Found::none(cuts + 1);
+        if exhausted < Found::MANY {
+            return Found::none(exhausted + 1);
         }
-        Found::none(cuts)
+        Found::none(exhausted)
     }
 
     // The trace found, with the step of this number put before its others.

@@ -41,8 +41,8 @@ impl Shortest {
     }
 }
 
-// The first trace of as many steps as every trace has at least, or of one more, and so on up to `depth`. A length at which no branch is
-// cut for want of steps is the last that is tried, since then no longer trace exists.
+// The first trace of as many steps as every trace has at least, or of one more, and so on up to `depth`. A length at which no branch
+// runs out of steps is the last that is tried, since then no longer trace exists.
 fn deepen<'a>(
     shop: &'a [u16],
     order: &'a [u16],
@@ -67,7 +67,7 @@ fn deepen<'a>(
                 steps: steps,
             };
         }
-        if steps.cuts == 0 {
+        if steps.exhausted == 0 {
             return Shortest::none(depth);
         }
         left += 1;
@@ -85,7 +85,7 @@ fn search_indexed<'a>(shop: &'a [u16], order: &'a [u16], depth: u16, tables: &mu
     first::begun(shop, order, tables, &mut goals.words);
     let atoms = first::start(shop, order);
     let mut table = [0u16; achievers::WORDS];
-    achievers::fill(shop, order, tables, &mut table);
+    achievers::fill_table(shop, order, tables, &mut table);
     deepen(shop, order, tables, &table, &atoms, &goals.words, depth)
 }
 

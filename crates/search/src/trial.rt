@@ -21,7 +21,7 @@ ghost use Rattle.hgn.specs.Search.{mostDepth};
 ghost use Rattle.sheet_index.specs.Tables.{Indexed};
 ghost use Rattle.network.specs.Goals.{countIn, listIn, Within};
 ghost use Rattle.step.specs.Moves.{Known, knownOf};
-ghost use Rattle.step.specs.Taking.{problemWith, Kept};
+ghost use Rattle.step.specs.Taking.{problemWith, ValidGoals};
 ghost use Rattle.search_pruning.specs.Tests.{crowded, stepOf};
 ghost use Rattle.search.specs.Trials.{Lent, MayTake, Opens, Suffices};
 
@@ -44,11 +44,11 @@ fn may_take<'a>(
         limit: Goals::MOST,
     };
     let goal = goals::entry_at(goals, choice.place);
-    let refusal = questions::of_move(shop, order, tables, atoms, mv, goal.rows, load);
+    let refusal = questions::move_refusal(shop, order, tables, atoms, mv, goal.rows, load);
     if refusal.number != 0 {
         return false;
     }
-    if rules::idle(shop, order, tables, atoms, mv) {
+    if rules::has_no_effect(shop, order, tables, atoms, mv) {
         return false;
     }
     true
@@ -67,15 +67,15 @@ pub fn is_open<'a>(
     last: Choice,
     choice: Choice,
 ) -> bool
-    requires { ⌜ Indexed (now shop) (now order) (now tables) × Kept (now shop) (now order) (now goals) × (choice .place .0 < countIn (now goals)) ⌝ }
-    requires { ⌜ Kept (now shop) (now order) (now «before_goals») × (last .place .0 < countIn (now «before_goals»)) ⌝ }
+    requires { ⌜ Indexed (now shop) (now order) (now tables) × ValidGoals (now shop) (now order) (now goals) × (choice .place .0 < countIn (now goals)) ⌝ }
+    requires { ⌜ ValidGoals (now shop) (now order) (now «before_goals») × (last .place .0 < countIn (now «before_goals»)) ⌝ }
     requires { ⌜ Known (actionCount (now shop)) (methodCount (now shop)) (last .mv) × Known (actionCount (now shop)) (methodCount (now shop)) (choice .mv) ⌝ }
     requires { ⌜ free (listIn (now shop) (now order) (now goals)) (goalAt (listIn (now shop) (now order) (now goals)) (choice .place .0)) ≡ true ⌝ }
     ensures { λ r. ⌜ Opens (now (shop .entry)) (problemWith (now (shop .entry)) (now (order .entry)) (now («before_atoms» .entry)) (now («before_goals» .entry))) (stepOf last)
         (problemWith (now (shop .entry)) (now (order .entry)) (now (atoms .entry)) (now (goals .entry))) choice r ⌝ }
 {
     if may_take(shop, order, tables, atoms, goals, choice) {
-        if rules::could_go_first(
+        if rules::commutes_with_last(
             shop,
             order,
             tables,
@@ -94,12 +94,12 @@ pub fn is_open<'a>(
     false
 }
 
-// A move can tell something new: no more goals wait after it than steps are left, or no branch was cut before for want of steps.
-pub fn can_tell(cuts: u16, left: u16, count: u16, mv: Move) -> bool
+// A move can tell something new: no more goals wait after it than steps are left, or no branch ran out of steps before.
+pub fn can_tell(exhausted: u16, left: u16, count: u16, mv: Move) -> bool
     requires { ⌜ left ≤ mostDepth ⌝ }
-    ensures { λ r. ⌜ r ≡ cond (ltb 0 cuts) (not (crowded left count (knownOf mv))) true ⌝ }
+    ensures { λ r. ⌜ r ≡ cond (ltb 0 exhausted) (not (crowded left count (knownOf mv))) true ⌝ }
 {
-    if 0 < cuts {
+    if 0 < exhausted {
         return !rules::crowded(left, count, mv);
     }
     true
@@ -125,7 +125,7 @@ pub fn may_suffice<'a>(
     if rules::too_few_left(shop, order, atoms, goals, left) {
         return false;
     }
-    if node.cuts < Found::MANY {
+    if node.exhausted < Found::MANY {
         return true;
     }
     if WORTH_COUNTING <= left {

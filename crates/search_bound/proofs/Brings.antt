@@ -9,14 +9,14 @@ use Rattle.hgn.specs.Meaning.{Node, noNode}
 use Rattle.hgn.specs.Network.{Waiting}
 use Rattle.hgn.specs.Run.{act, use-method, actionAt, methodAt, Problem, Rules}
 use Rattle.hgn.specs.Shop.{domain}
-use Rattle.hgn.proofs.Tests.{not-true-false, false-not-true, true-any, mem-at, at-lt, at-getD}
+use Rattle.hgn.proofs.Logic.Tests.{not-true-false, false-not-true, true-any, mem-at, at-lt, at-getD}
 use Rattle.sheet_rows.specs.declared.position.Sheet.the-variants as Of
 use Rattle.sheet_index.specs.Tables.{Bounds, Walk, nodeAt, MethodAt}
 use Rattle.sheet_index.specs.declared.operators.MethodRows.{MethodRows}
 use Rattle.sheet_index.proofs.NodeWalks.{ahead}
 use Rattle.search_theory.specs.Needed.{Needed, OnlyMethod, InEvery}
 use Rattle.search_theory.proofs.Needed.{needed-by-node, needed-by-relevance}
-use Rattle.search_bound.specs.Gathered.{WantedFormula}
+use Rattle.search_bound.specs.NeededMoves.{WantedFormula}
 
 module _ (r : Rules) (P : Problem) where
   pub node-wanted : (m : ℕ) (v : Node) → Needed r P (use-method m) → List·Memᴰ v (methodAt (r .domain) m .nodes) → WantedFormula (v .formula) r P

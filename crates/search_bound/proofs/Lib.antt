@@ -2,6 +2,6 @@
 pub mod Effects
 pub mod OnlyAchieved
 pub mod OnlyMethods
-pub mod Gathering
+pub mod NeededMoves
 pub mod Wants
 pub mod Brings

@@ -14,8 +14,8 @@ use Rattle.hgn.specs.Meaning.{Literal, Domain, literals}
 use Rattle.hgn.specs.State.{contains, mostAtoms}
 use Rattle.hgn.specs.Run.{actionAt}
 use Rattle.hgn.specs.Shop.{domain, actionCount, mostActions}
-use Rattle.hgn.proofs.Tests.{contains-iff}
-use Rattle.hgn.proofs.Checked.{shop-actions, shop-counts}
+use Rattle.hgn.proofs.Logic.Tests.{contains-iff}
+use Rattle.hgn.proofs.Sheets.Checked.{shop-actions, shop-counts}
 use Rattle.sheet_index.specs.Index.{partRows}
 use Rattle.sheet_index.specs.declared.index.Part.{Part}
 use Rattle.sheet_index.specs.Tables.{Indexed, ActionIn}

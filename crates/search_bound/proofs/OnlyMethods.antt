@@ -14,8 +14,8 @@ use Rattle.hgn.specs.State.{relevant}
 use Rattle.hgn.specs.Run.{methodAt}
 use Rattle.hgn.specs.Shop.{domain, methodCount}
 use Rattle.hgn.specs.Replay.{rulesOf}
-use Rattle.hgn.proofs.Tests.{true-any, at-mem, at-of-lt, false-not-true}
-use Rattle.hgn.proofs.Checked.{shop-counts}
+use Rattle.hgn.proofs.Logic.Tests.{true-any, at-mem, at-of-lt, false-not-true}
+use Rattle.hgn.proofs.Sheets.Checked.{shop-counts}
 use Rattle.sheet_index.specs.declared.index.Part.{Part}
 use Rattle.sheet_rows.specs.declared.position.Sheet.the-variants as Of
 use Rattle.sheet_index.specs.Index.{partRows}

@@ -1,3 +1,3 @@
 -- What the tables and the list of needed moves mean, for the contracts between the functions.
 pub mod Tables
-pub mod Gathered
+pub mod NeededMoves

@@ -13,7 +13,7 @@ use Rattle.sheet_rows.specs.declared.position.Sheet.the-variants as Of
 use Rattle.sheet_index.specs.Index.{spanRows, spanOf, partRows}
 use Rattle.hgn.specs.Shop.{domain, actionCount, methodCount}
 use Rattle.sheet_index.specs.Tables.{Bounds, Indexed}
-use Rattle.search_theory.specs.Needed.{OnlyMaker}
+use Rattle.search_theory.specs.Needed.{OnlyAchiever}
 
 -- The words of the table: two an atom, for false and for true.
 abbrev pub achieversWords : ℕ
@@ -26,7 +26,7 @@ indexOf atom sign = 2 * atom + cond sign 1 0
 -- Where the table names an action, no other achieves the literal; where it has 0, which is no action's number, none does.
 abbrev pub OnlyAchievers : Domain → List ℕ → Type 0
 OnlyAchievers d table = (l : Literal) → l .atom < mostAtoms
-    → getD table (indexOf (l .atom) (l .sign)) 0 ≤ length (d .actions) → OnlyMaker d l (getD table (indexOf (l .atom) (l .sign)) 0)
+    → getD table (indexOf (l .atom) (l .sign)) 0 ≤ length (d .actions) → OnlyAchiever d l (getD table (indexOf (l .atom) (l .sign)) 0)
 
 -- The operator is an action or a method of indexed sheets, and the table is their shop sheet's.
 pub record OperatorOf (shop order tables table : List ℕ) (o : ℕ) : Type 0 where

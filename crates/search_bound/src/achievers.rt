@@ -99,7 +99,7 @@ fn note_effects(table: &mut [u16; WORDS], words: &[u16], part: Part, action: u16
 }
 
 // For each literal the one action that achieves it; 0 where none does, `MANY` where several do. What the table held before is gone.
-pub fn fill<'a>(shop: &'a [u16], order: &'a [u16], tables: &[u16], table: &mut [u16; WORDS])
+pub fn fill_table<'a>(shop: &'a [u16], order: &'a [u16], tables: &[u16], table: &mut [u16; WORDS])
     requires { ⌜ Indexed (now shop) (now order) (now tables) ⌝ }
     ensures { λ _. ⌜ OnlyAchievers (domain (now (shop .entry))) (now (table .exit)) ⌝ }
 {

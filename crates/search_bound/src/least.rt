@@ -1,8 +1,8 @@
 // The moves that every accepted trace makes, and the steps that they take.
 use crate::achievers;
 use crate::achievers::Literal;
-use crate::gathered;
-use crate::gathered::Gathered;
+use crate::needed_moves;
+use crate::needed_moves::NeededMoves;
 use crate::relevance;
 use network::goals;
 use network::goals::Goals;
@@ -35,7 +35,7 @@ ghost use Rattle.network.specs.Goals.{Within};
 ghost use Rattle.step.specs.Taking.{problemWith};
 ghost use Rattle.search_theory.specs.Pruned.{prunedOf};
 ghost use Rattle.search_bound.specs.Tables.{OnlyAchievers, OperatorOf};
-ghost use Rattle.search_bound.specs.Gathered.{Holds, moveOfOperator, Wanted, WantedAll, WantedFormula, WithAchievers, WithGoals, Onward, OnwardFrom};
+ghost use Rattle.search_bound.specs.NeededMoves.{Holds, moveOfOperator, Wanted, WantedAll, WantedFormula, WithAchievers, WithGoals, Onward, OnwardFrom};
 
 // The two tags of the rows that have a literal, one tag for each sign.
 pub struct LiteralTags {
@@ -45,14 +45,14 @@ pub struct LiteralTags {
 
 // The only action that achieves a literal is added, if the literal does not hold. Where no action achieves it, no trace is accepted.
 fn add_achiever(
-    gathered: &mut [u16; Gathered::WORDS],
+    moves: &mut [u16; NeededMoves::WORDS],
     atoms: &[bool; Shop::MOST_ATOMS as usize],
     table: &[u16; achievers::WORDS],
     actions: u16,
     literal: Literal,
 )
     ensures { λ _. ⌜ WithAchievers (Wanted (record { sign = literal .sign; atom = literal .atom .0 })) (now (atoms .entry)) (now (table .entry)) actions
-        (now (gathered .entry)) (now (gathered .exit)) ⌝ }
+        (now (moves .entry)) (now (moves .exit)) ⌝ }
 {
     let atom = literal.atom;
     if Shop::MOST_ATOMS <= atom.0 {
@@ -64,18 +64,18 @@ fn add_achiever(
     let at = achievers::index_of(literal);
     let action = table[at];
     if action == 0 {
-        gathered::give_up(gathered);
+        needed_moves::give_up(moves);
         return;
     }
     if actions < action {
         return;
     }
-    gathered::add(gathered, action - 1, 1);
+    needed_moves::add(moves, action - 1, 1);
 }
 
 // The only achiever of the row's literal is added, if the row has one: its tag is one of these two.
 fn add_row(
-    gathered: &mut [u16; Gathered::WORDS],
+    moves: &mut [u16; NeededMoves::WORDS],
     atoms: &[bool; Shop::MOST_ATOMS as usize],
     table: &[u16; achievers::WORDS],
     actions: u16,
@@ -84,7 +84,7 @@ fn add_row(
     signs: LiteralTags,
 )
     ensures { λ _. ⌜ WithAchievers (WantedAll (literals (signs .positive) (signs .negative) (row tag value ∷ []))) (now (atoms .entry)) (now (table .entry)) actions
-        (now (gathered .entry)) (now (gathered .exit)) ⌝ }
+        (now (moves .entry)) (now (moves .exit)) ⌝ }
 {
     let atom = Atom(value);
     if tag == signs.positive {
@@ -92,7 +92,7 @@ fn add_row(
             atom: atom,
             sign: true,
         };
-        add_achiever(gathered, atoms, table, actions, literal);
+        add_achiever(moves, atoms, table, actions, literal);
         return;
     }
     if tag == signs.negative {
@@ -100,13 +100,13 @@ fn add_row(
             atom: atom,
             sign: false,
         };
-        add_achiever(gathered, atoms, table, actions, literal);
+        add_achiever(moves, atoms, table, actions, literal);
     }
 }
 
 // The only achievers of the literals of the rows with these two tags are added.
 fn add_rows(
-    gathered: &mut [u16; Gathered::WORDS],
+    moves: &mut [u16; NeededMoves::WORDS],
     atoms: &[bool; Shop::MOST_ATOMS as usize],
     table: &[u16; achievers::WORDS],
     actions: u16,
@@ -115,12 +115,12 @@ fn add_rows(
     signs: LiteralTags,
 )
     ensures { λ _. ⌜ WithAchievers (WantedAll (literals (signs .positive) (signs .negative) (zipWith row (now (tags .entry)) (now (values .entry))))) (now (atoms .entry))
-        (now (table .entry)) actions (now (gathered .entry)) (now (gathered .exit)) ⌝ }
+        (now (table .entry)) actions (now (moves .entry)) (now (moves .exit)) ⌝ }
 {
     let n = part::rows(tags, values);
     let mut i = 0;
     while i < n {
-        add_row(gathered, atoms, table, actions, tags[i], values[i], signs);
+        add_row(moves, atoms, table, actions, tags[i], values[i], signs);
         i += 1;
     }
 }
@@ -155,7 +155,7 @@ fn one_alternative(tags: &[u16], values: &[u16]) -> bool
 
 // The only achievers of what a goal wants are added, if it has one alternative: then its literals stand in every one.
 fn add_goal<'a>(
-    gathered: &mut [u16; Gathered::WORDS],
+    moves: &mut [u16; NeededMoves::WORDS],
     shop: &'a [u16],
     order: &'a [u16],
     atoms: &[bool; Shop::MOST_ATOMS as usize],
@@ -164,7 +164,7 @@ fn add_goal<'a>(
     rows: Span,
 )
     ensures { λ _. ⌜ WithAchievers (WantedFormula (nodeOf (spanRows (now (shop .entry)) (now (order .entry)) rows) .formula)) (now (atoms .entry)) (now (table .entry)) actions
-        (now (gathered .entry)) (now (gathered .exit)) ⌝ }
+        (now (moves .entry)) (now (moves .exit)) ⌝ }
 {
     let tags = index::tags_of(rows, shop, order);
     let values = index::values_of(rows, shop, order);
@@ -173,13 +173,13 @@ fn add_goal<'a>(
             positive: tag::WANTED_TRUE,
             negative: tag::WANTED_FALSE,
         };
-        add_rows(gathered, atoms, table, actions, tags, values, wanted);
+        add_rows(moves, atoms, table, actions, tags, values, wanted);
     }
 }
 
 // The only achievers of what the waiting goals want are added.
 fn add_goals<'a>(
-    gathered: &mut [u16; Gathered::WORDS],
+    moves: &mut [u16; NeededMoves::WORDS],
     shop: &'a [u16],
     order: &'a [u16],
     atoms: &[bool; Shop::MOST_ATOMS as usize],
@@ -189,21 +189,21 @@ fn add_goals<'a>(
 )
     requires { ⌜ Within (now goals) ⌝ }
     ensures { λ _. ⌜ WithGoals (problemWith (now (shop .entry)) (now (order .entry)) (now (atoms .entry)) (now (goals .entry))) (now (table .entry)) actions
-        (now (gathered .entry)) (now (gathered .exit)) ⌝ }
+        (now (moves .entry)) (now (moves .exit)) ⌝ }
 {
     let count = goals::count_of(goals);
     let mut i: u16 = 0;
     while i < count {
         let goal = goals::entry_at(goals, Place(i));
         let rows = goal.rows;
-        add_goal(gathered, shop, order, atoms, table, actions, rows);
+        add_goal(moves, shop, order, atoms, table, actions, rows);
         i += 1;
     }
 }
 
 // The only achievers of what an operator needs are added.
 fn add_needs<'a>(
-    gathered: &mut [u16; Gathered::WORDS],
+    moves: &mut [u16; NeededMoves::WORDS],
     shop: &'a [u16],
     order: &'a [u16],
     tables: &[u16],
@@ -213,7 +213,7 @@ fn add_needs<'a>(
 )
     requires { ⌜ OperatorOf (now shop) (now order) (now tables) (now table) operator ⌝ }
     ensures { λ _. ⌜ OnwardFrom (rulesOf (now (shop .entry))) (now (atoms .entry)) (moveOfOperator (domain (now (shop .entry))) operator)
-        (now (gathered .entry)) (now (gathered .exit)) ⌝ }
+        (now (moves .entry)) (now (moves .exit)) ⌝ }
 {
     let sizes = ShopSizes::of(shop);
     let rows = operators::operator_rows(tables, operator);
@@ -223,12 +223,12 @@ fn add_needs<'a>(
         positive: tag::NEEDS_TRUE,
         negative: tag::NEEDS_FALSE,
     };
-    add_rows(gathered, atoms, table, sizes.actions, tags, values, needed);
+    add_rows(moves, atoms, table, sizes.actions, tags, values, needed);
 }
 
 // The only achievers of what a method's nodes want are added; an action has no nodes.
 fn add_nodes<'a>(
-    gathered: &mut [u16; Gathered::WORDS],
+    moves: &mut [u16; NeededMoves::WORDS],
     shop: &'a [u16],
     order: &'a [u16],
     tables: &[u16],
@@ -238,7 +238,7 @@ fn add_nodes<'a>(
 )
     requires { ⌜ OperatorOf (now shop) (now order) (now tables) (now table) operator ⌝ }
     ensures { λ _. ⌜ OnwardFrom (rulesOf (now (shop .entry))) (now (atoms .entry)) (moveOfOperator (domain (now (shop .entry))) operator)
-        (now (gathered .entry)) (now (gathered .exit)) ⌝ }
+        (now (moves .entry)) (now (moves .exit)) ⌝ }
 {
     let sizes = ShopSizes::of(shop);
     let actions = sizes.actions;
@@ -255,13 +255,13 @@ fn add_nodes<'a>(
         let here = row as usize;
         row = tables[here];
         let node = Span::of_shop(Row(from), Row(row));
-        add_goal(gathered, shop, order, atoms, table, actions, node);
+        add_goal(moves, shop, order, atoms, table, actions, node);
     }
 }
 
 // For an action that is relevant to no waiting goal, the only method that can bring in a goal to which it is relevant is added.
 fn add_method<'a>(
-    gathered: &mut [u16; Gathered::WORDS],
+    moves: &mut [u16; NeededMoves::WORDS],
     shop: &'a [u16],
     order: &'a [u16],
     tables: &[u16],
@@ -270,7 +270,7 @@ fn add_method<'a>(
 )
     requires { ⌜ Indexed (now shop) (now order) (now tables) × Within (now goals) ⌝ }
     ensures { λ _. ⌜ ((s : State) → Onward (rulesOf (now (shop .entry))) (problemWith (now (shop .entry)) (now (order .entry)) s (now (goals .entry)))
-        (moveOfOperator (domain (now (shop .entry))) operator) (now (gathered .entry)) (now (gathered .exit))) ⌝ }
+        (moveOfOperator (domain (now (shop .entry))) operator) (now (moves .entry)) (now (moves .exit))) ⌝ }
 {
     let sizes = ShopSizes::of(shop);
     let actions = sizes.actions;
@@ -288,12 +288,12 @@ fn add_method<'a>(
     let method = named - 1;
     let rows = operators::method_rows(shop, tables, method);
     let nodes = operators::nodes_between(tables, rows.first, rows.end);
-    gathered::add(gathered, actions + method, 1 + nodes.count);
+    needed_moves::add(moves, actions + method, 1 + nodes.count);
 }
 
 // What every gathered operator brings with it is added, also for those that are added on the way. It ends early where no trace is accepted.
 fn close<'a>(
-    gathered: &mut [u16; Gathered::WORDS],
+    moves: &mut [u16; NeededMoves::WORDS],
     shop: &'a [u16],
     order: &'a [u16],
     tables: &[u16],
@@ -302,20 +302,20 @@ fn close<'a>(
     goals: &[u16; Goals::WORDS],
 )
     requires { ⌜ Indexed (now shop) (now order) (now tables) × OnlyAchievers (domain (now shop)) (now table) ⌝ }
-    requires { ⌜ Within (now goals) × Holds (rulesOf (now shop)) (problemWith (now shop) (now order) (now atoms) (now goals)) (now gathered) ⌝ }
+    requires { ⌜ Within (now goals) × Holds (rulesOf (now shop)) (problemWith (now shop) (now order) (now atoms) (now goals)) (now moves) ⌝ }
     ensures { λ _. ⌜ Holds (rulesOf (now (shop .entry))) (problemWith (now (shop .entry)) (now (order .entry)) (now (atoms .entry)) (now (goals .entry)))
-        (now (gathered .exit)) ⌝ }
+        (now (moves .exit)) ⌝ }
 {
     let mut at: u16 = 0;
-    while at < gathered::count_of(gathered) {
-        if gathered::is_hopeless(gathered) {
+    while at < needed_moves::count_of(moves) {
+        if needed_moves::is_hopeless(moves) {
             return;
         }
-        let operator = gathered::operator_at(gathered, at);
+        let operator = needed_moves::operator_at(moves, at);
         at += 1;
-        add_needs(gathered, shop, order, tables, atoms, table, operator);
-        add_nodes(gathered, shop, order, tables, atoms, table, operator);
-        add_method(gathered, shop, order, tables, goals, operator);
+        add_needs(moves, shop, order, tables, atoms, table, operator);
+        add_nodes(moves, shop, order, tables, atoms, table, operator);
+        add_method(moves, shop, order, tables, goals, operator);
     }
 }
 
@@ -337,19 +337,11 @@ pub fn at_least<'a>(
         (problemWith (now (shop .entry)) (now (order .entry)) (now (atoms .entry)) (now (goals .entry))) ≡ none) ⌝ }
 {
     let sizes = ShopSizes::of(shop);
-    let mut gathered = [0; Gathered::WORDS];
-    add_goals(
-        &mut gathered,
-        shop,
-        order,
-        atoms,
-        table,
-        sizes.actions,
-        goals,
-    );
-    close(&mut gathered, shop, order, tables, atoms, table, goals);
-    if gathered::is_hopeless(&gathered) {
+    let mut moves = [0; NeededMoves::WORDS];
+    add_goals(&mut moves, shop, order, atoms, table, sizes.actions, goals);
+    close(&mut moves, shop, order, tables, atoms, table, goals);
+    if needed_moves::is_hopeless(&moves) {
         return NONE;
     }
-    goals::count_of(goals) + gathered::steps_of(&gathered)
+    goals::count_of(goals) + needed_moves::steps_of(&moves)
 }

@@ -47,7 +47,7 @@ fn has_node_for<'a>(
         let at = row as usize;
         row = tables[at];
         let node = Span::of_shop(Row(from), Row(row));
-        if parts::helps(
+        if parts::relevant_to(
             shop,
             order,
             effects,
@@ -118,7 +118,7 @@ pub fn wanted_by<'a>(
     while i < count {
         let goal = goals::entry_at(goals, Place(i));
         let wants = goal.rows;
-        if parts::helps(shop, order, rows, tag::MAKES_TRUE, tag::MAKES_FALSE, wants) {
+        if parts::relevant_to(shop, order, rows, tag::MAKES_TRUE, tag::MAKES_FALSE, wants) {
             return true;
         }
         i += 1;

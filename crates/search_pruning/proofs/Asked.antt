@@ -23,7 +23,7 @@ use Rattle.step.specs.declared.moves.Move.{Move}
 use Rattle.step.specs.declared.moves.Move.the-variants.{Release, Act, Use}
 use Rattle.network.specs.declared.waiting.Entry.{Entry}
 use Rattle.step.proofs.Actions.{known-action}
-use Rattle.search_theory.specs.Rules.{ready, idle, lowerToo, stateAfter}
+use Rattle.search_theory.specs.Rules.{ready, hasNoEffect, lowerToo, stateAfter}
 use Rattle.search_pruning.specs.Tests.{crowded}
 
 -- A release.
@@ -33,9 +33,9 @@ module _ (shop : List ℕ) {m : Move} (e : m ≡ Release) where
   unfolding ready waitingOf
   ready-release order s g p = rw e p
 
-  pub idle-release : (s : State) → false ≡ idle (domain shop) s (knownOf m)
-  unfolding idle
-  idle-release s = rw e
+  pub no-effect-release : (s : State) → false ≡ hasNoEffect (domain shop) s (knownOf m)
+  unfolding hasNoEffect
+  no-effect-release s = rw e
 
   pub lower-release : (w : List Network.Waiting) (p : ℕ) → false ≡ lowerToo (rulesOf shop) w p (knownOf m)
   unfolding lowerToo
@@ -52,9 +52,9 @@ module _ (shop : List ℕ) {m : Move} {k : ℕ} (e : m ≡ Use k) where
   unfolding ready
   ready-method order s g rows n p = rw e (p ∙ ap (allHold s) n)
 
-  pub idle-method : (s : State) → false ≡ idle (domain shop) s (knownOf m)
-  unfolding idle
-  idle-method s = rw e
+  pub no-effect-method : (s : State) → false ≡ hasNoEffect (domain shop) s (knownOf m)
+  unfolding hasNoEffect
+  no-effect-method s = rw e
 
   pub lower-method : (w : List Network.Waiting) (p : ℕ) → false ≡ lowerToo (rulesOf shop) w p (knownOf m)
   unfolding lowerToo
@@ -76,9 +76,9 @@ module _ {shop : List ℕ} {m : Move} {k : ℕ} (e : m ≡ Act k) {rows : Part} 
   unfolding ready
   ready-action s g p = rw e (p ∙ ap (allHold s) (there .needs))
 
-  pub idle-action : {r : Bool} (s : State) → r ≡ allHold s (literals 5 6 (partRows shop rows)) → r ≡ idle (domain shop) s (knownOf m)
-  unfolding idle
-  idle-action s p = rw e (p ∙ ap (allHold s) (there .effects))
+  pub no-effect-action : {r : Bool} (s : State) → r ≡ allHold s (literals 5 6 (partRows shop rows)) → r ≡ hasNoEffect (domain shop) s (knownOf m)
+  unfolding hasNoEffect
+  no-effect-action s p = rw e (p ∙ ap (allHold s) (there .effects))
 
   pub lower-action : {r : Bool} (w : List Network.Waiting) (p : ℕ)
       → r ≡ any (λ g. relevant (literals 5 6 (partRows shop rows)) (g .formula) && free w g) (take p w)

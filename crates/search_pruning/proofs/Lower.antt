@@ -20,7 +20,7 @@ use Rattle.network.specs.Entries.{waitingOf}
 use Rattle.network.specs.declared.waiting.Entry.{Entry}
 use Rattle.network.specs.Goals.{countIn, entryIn, pendingIn, listIn}
 use Rattle.network.proofs.WaitingGoals.{list-length, list-at, free-at}
-use Rattle.step.specs.Taking.{problemWith, Kept}
+use Rattle.step.specs.Taking.{problemWith, ValidGoals}
 use Rattle.search_theory.specs.Rules.{tooFewLeft, sameState}
 
 -- A search along a list that has come to place `i`: it ends there, has found one, or goes on.
@@ -67,7 +67,7 @@ module _ (shop order ws : List ℕ) where
   count = countIn ws
 
   -- A search below place `p` for a goal that is free and to which these literals are relevant.
-  module _ (kept : Kept shop order ws) (ls : List Literal) (p i : ℕ) (inside : p ≤ count) where
+  module _ (valid : ValidGoals shop order ws) (ls : List Literal) (p i : ℕ) (inside : p ≤ count) where
     abbrev test : Network.Waiting → Bool
     test g = relevant ls (g .formula) && free list g
 
@@ -80,7 +80,7 @@ module _ (shop order ws : List ℕ) where
 
       module _ (h : i < p) {b : Bool} (f : b ≡ eqb (pendingIn ws i) 0) where
         free-is : {v : Bool} → b ≡ v → free list (goalAt list i) ≡ v
-        free-is q = sym (free-at shop order ws (kept .within) (kept .counted) i (omega arith)) ∙ told f q
+        free-is q = sym (free-at shop order ws (valid .within) (valid .counted) i (omega arith)) ∙ told f q
 
         pub lower-held : b ≡ false → any test (take p list) ≡ any test (drop (i + 1) (take p list))
         lower-held q = any-on test list i p fits known noGoal h (rw (free-is q) (and-false (relevant ls (goalAt list i .formula))))

@@ -9,17 +9,17 @@ use borrow.Author.Tests.{eq-eqb, ne-eqb, lt-ltb, le-ltb, ltb-true, eqb-true}
 use Rattle.hgn.specs.Run as Run
 use Rattle.hgn.specs.Run.{moveOf}
 use Rattle.hgn.specs.Shop.{domain, actionCount, methodCount}
-use Rattle.hgn.proofs.Tests.{false-not-true}
-use Rattle.hgn.proofs.Moves.{reads-action, reads-method}
-use Rattle.hgn.proofs.Checked.{shop-actions, shop-methods, shop-counts}
+use Rattle.hgn.proofs.Logic.Tests.{false-not-true}
+use Rattle.hgn.proofs.Run.Moves.{reads-action, reads-method}
+use Rattle.hgn.proofs.Sheets.Checked.{shop-actions, shop-methods, shop-counts}
 use Rattle.step.specs.Moves.{Known, knownOf}
 use Rattle.sheet_index.specs.Tables.{Indexed}
 use Rattle.step.specs.declared.moves.Move.{Move}
 use Rattle.step.specs.declared.moves.Choice.{Choice}
 use Rattle.step.specs.declared.moves.Move.the-variants.{Release, Act, Use}
 use Rattle.sheet_index.proofs.Tables.{shop-passes}
-use Rattle.search_theory.specs.Rules.{isAction, goesFirst}
-use Rattle.search_pruning.specs.Tests.{moveNumber, actionNumber, stepOf, before}
+use Rattle.search_theory.specs.Rules.{isAction, isEarlier}
+use Rattle.search_pruning.specs.Tests.{moveNumber, actionNumber, stepOf, earlierChoice}
 
 and-no : (b : Bool) → false ≡ (b && false)
 and-no true = refl
@@ -45,7 +45,7 @@ by-tests true b p = refl
 by-tests false true p = p
 by-tests false false p = refl
 
--- `before` test by test, as the code asks.
+-- `earlierChoice` test by test, as the code asks.
 module _ (y x : Choice) where
   abbrev q : ℕ
   q = y .place .0
@@ -53,22 +53,22 @@ module _ (y x : Choice) where
   abbrev p : ℕ
   p = x .place .0
 
-  pub before-below : p < q → true ≡ before y x
-  before-below h = rw (lt-ltb p q h)
+  pub earlier-below : p < q → true ≡ earlierChoice y x
+  earlier-below h = rw (lt-ltb p q h)
 
-  pub before-above : q ≤ p → (p ≡ q → ⊥) → false ≡ before y x
-  before-above h n = rw (le-ltb p q h, ne-eqb p q n)
+  pub earlier-above : q ≤ p → (p ≡ q → ⊥) → false ≡ earlierChoice y x
+  earlier-above h n = rw (le-ltb p q h, ne-eqb p q n)
 
   module _ (e : p ≡ q) {a : ℕ} (r : a ≡ actionNumber (x .mv)) where
-    pub before-other : a ≤ 0 → false ≡ before y x
-    before-other h = rw (le-ltb p q (omega arith), eq-eqb p q e, le-ltb 0 (actionNumber (x .mv)) (omega arith))
+    pub earlier-other : a ≤ 0 → false ≡ earlierChoice y x
+    earlier-other h = rw (le-ltb p q (omega arith), eq-eqb p q e, le-ltb 0 (actionNumber (x .mv)) (omega arith))
 
-    pub before-action : 0 < a → {b : ℕ} → b ≡ actionNumber (y .mv) → ltb a b ≡ before y x
-    before-action h t = rw (r, t, le-ltb p q (omega arith), eq-eqb p q e, lt-ltb 0 (actionNumber (x .mv)) (omega arith))
+    pub earlier-action : 0 < a → {b : ℕ} → b ≡ actionNumber (y .mv) → ltb a b ≡ earlierChoice y x
+    earlier-action h t = rw (r, t, le-ltb p q (omega arith), eq-eqb p q e, lt-ltb 0 (actionNumber (x .mv)) (omega arith))
 
   -- A step that would go before the last one stands no higher.
-  pub before-inside : before y x ≡ true → p ≤ q
-  before-inside h = go (ltb p q) (eqb p q) refl refl h
+  pub earlier-inside : earlierChoice y x ≡ true → p ≤ q
+  earlier-inside h = go (ltb p q) (eqb p q) refl refl h
     where
       go : (a b : Bool) → ltb p q ≡ a → eqb p q ≡ b
           → cond a true (cond b (cond (ltb 0 (actionNumber (x .mv))) (ltb (actionNumber (x .mv)) (actionNumber (y .mv))) false) false) ≡ true → p ≤ q
@@ -96,8 +96,8 @@ module _ {shop order table : List ℕ} (ix : Indexed shop order table) where
   number-fits (Act k) h = omega (arith, shop-counts shop (shop-passes ix) .0, shop-actions shop (shop-passes ix))
   number-fits (Use k) h = omega (arith, shop-counts shop (shop-passes ix) .1, shop-methods shop (shop-passes ix))
 
-  pub before-is : (y x : Choice) → Moves (y .mv) → Moves (x .mv) → before y x ≡ goesFirst (domain shop) (stepOf y) (stepOf x)
-  unfolding goesFirst
-  before-is y x h k =
+  pub earlier-is : (y x : Choice) → Moves (y .mv) → Moves (x .mv) → earlierChoice y x ≡ isEarlier (domain shop) (stepOf y) (stepOf x)
+  unfolding isEarlier
+  earlier-is y x h k =
       rw (number-read (x .mv) k, number-read (y .mv) h)
       (by-tests (ltb (x .place .0) (y .place .0)) (eqb (x .place .0) (y .place .0)) (lower-first (actionCount shop) (methodCount shop) (x .mv) (y .mv) k h))

@@ -14,7 +14,7 @@ use Rattle.hgn.specs.Shop.{domain, actionCount, methodCount}
 use Rattle.sheet_rows.proofs.Laws.{told}
 use Rattle.network.specs.Entries.{waitingOf}
 use Rattle.step.specs.Moves.{Known, knownOf}
-use Rattle.step.specs.Taking.{problemWith, Kept}
+use Rattle.step.specs.Taking.{problemWith, ValidGoals}
 use Rattle.sheet_index.specs.Tables.{Indexed}
 use Rattle.step.specs.declared.moves.Move.{Move}
 use Rattle.step.specs.declared.moves.Move.the-variants.{Release, Act, Use}
@@ -22,9 +22,9 @@ use Rattle.step.specs.declared.moves.Choice.{Choice}
 use Rattle.network.specs.declared.waiting.Entry.{Entry}
 use Rattle.network.specs.Goals.{countIn, entryIn, pendingIn, listIn}
 use Rattle.network.proofs.WaitingGoals.{list-at, free-at}
-use Rattle.search_theory.specs.Rules.{ready, stateAfter, sameState, commute, couldGoFirst}
-use Rattle.search_pruning.specs.Tests.{actionNumber, stepOf, before, swapReady}
-use Rattle.search_pruning.proofs.Reading.{number-read, before-inside, before-is}
+use Rattle.search_theory.specs.Rules.{ready, stateAfter, sameState, commute, commutesWithLast}
+use Rattle.search_pruning.specs.Tests.{actionNumber, stepOf, earlierChoice, swapReady}
+use Rattle.search_pruning.proofs.Reading.{number-read, earlier-inside, earlier-is}
 
 module _ (shop : List ℕ) (s : State) where
   abbrev Moves : Move → Type 0
@@ -85,35 +85,35 @@ pub ready-at : (shop order : List ℕ) (d : Domain) (s : State) (x : Run.Move) {
     → r ≡ ready d s (waitingOf shop order goal) x → r ≡ ready d s (waitingOf shop order here) x
 ready-at shop order d s x e p = p ∙ ap (λ (g : Entry). ready d s (waitingOf shop order g) x) e
 
-module _ {shop order table : List ℕ} (ix : Indexed shop order table) (s : State) {ws : List ℕ} (k : Kept shop order ws) (y x : Choice) (inside : y .place .0 < countIn ws)
-    (ky : Known (actionCount shop) (methodCount shop) (y .mv)) (kx : Known (actionCount shop) (methodCount shop) (x .mv)) {a : Bool} (f : a ≡ before y x) where
+module _ {shop order table : List ℕ} (ix : Indexed shop order table) (s : State) {ws : List ℕ} (k : ValidGoals shop order ws) (y x : Choice) (inside : y .place .0 < countIn ws)
+    (ky : Known (actionCount shop) (methodCount shop) (y .mv)) (kx : Known (actionCount shop) (methodCount shop) (x .mv)) {a : Bool} (f : a ≡ earlierChoice y x) where
   abbrev Could : Bool → Type 0
-  Could r = r ≡ couldGoFirst (domain shop) (problemWith shop order s ws) (stepOf y) (stepOf x)
+  Could r = r ≡ commutesWithLast (domain shop) (problemWith shop order s ws) (stepOf y) (stepOf x)
 
-  pub could-not-first : a ≡ false → Could false
-  unfolding couldGoFirst
-  could-not-first e = rw (sym (before-is ix y x ky kx) ∙ told f e)
+  pub not-earlier : a ≡ false → Could false
+  unfolding commutesWithLast
+  not-earlier e = rw (sym (earlier-is ix y x ky kx) ∙ told f e)
 
   module _ (t : a ≡ true) where
     pub below : x .place .0 < countIn ws
-    below = omega (arith, before-inside y x (told f t))
+    below = omega (arith, earlier-inside y x (told f t))
 
     module _ {c : Bool} (g : c ≡ eqb (pendingIn ws (x .place .0)) 0) where
       free-is : {v : Bool} → c ≡ v → free (listIn shop order ws) (goalAt (listIn shop order ws) (x .place .0)) ≡ v
       free-is e = sym (free-at shop order ws (k .within) (k .counted) (x .place .0) below) ∙ told g e
 
-      pub could-not-free : c ≡ false → Could false
-      unfolding couldGoFirst
-      could-not-free e = rw (sym (before-is ix y x ky kx) ∙ told f t, free-is e)
+      pub not-free-then : c ≡ false → Could false
+      unfolding commutesWithLast
+      not-free-then e = rw (sym (earlier-is ix y x ky kx) ∙ told f t, free-is e)
 
-      pub could-asked : c ≡ true → {r : Bool}
+      pub commutes-asked : c ≡ true → {r : Bool}
           → r ≡ swapReady (domain shop) s (waitingOf shop order (entryIn ws (y .place .0))) (knownOf (y .mv)) (waitingOf shop order (entryIn ws (x .place .0))) (knownOf (x .mv))
           → Could r
-      unfolding couldGoFirst
-      could-asked e o =
+      unfolding commutesWithLast
+      commutes-asked e o =
           o
           ∙ rw (
-            sym (before-is ix y x ky kx) ∙ told f t,
+            sym (earlier-is ix y x ky kx) ∙ told f t,
             free-is e,
             list-at shop order ws (x .place .0) below,
             list-at shop order ws (y .place .0) inside,

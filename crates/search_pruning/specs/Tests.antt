@@ -32,9 +32,9 @@ actionNumber (Use m) = 0
 abbrev pub stepOf : Choice → Step
 stepOf x = step (moveNumber (x .mv)) (x .place .0)
 
--- `goesFirst` of the rules: `x` would go before `y`.
-abbrev pub before : Choice → Choice → Bool
-before y x =
+-- `isEarlier` of the rules: `x` would go before `y`.
+abbrev pub earlierChoice : Choice → Choice → Bool
+earlierChoice y x =
     cond (ltb (x .place .0) (y .place .0)) true
     (cond (eqb (x .place .0) (y .place .0)) (cond (ltb 0 (actionNumber (x .mv))) (ltb (actionNumber (x .mv)) (actionNumber (y .mv))) false) false)
 
@@ -45,6 +45,6 @@ crowded left count (Run.act k) = ltb left count
 crowded left count (Run.use-method m) = ltb left count
 crowded left count Run.unknown = ltb left count
 
--- What `couldGoFirst` asks of the state: the last move `y`, then `x`, in the other order.
+-- What `commutesWithLast` asks of the state: the last move `y`, then `x`, in the other order.
 abbrev pub swapReady : Domain → State → Waiting → Run.Move → Waiting → Run.Move → Bool
 swapReady d s h y g x = ready d s g x && (ready d (stateAfter d s x) h y && commute d s y x)

@@ -27,10 +27,10 @@ ghost use Rattle.network.specs.Entries.{waitingOf};
 ghost use Rattle.sheet_index.specs.Index.{partRows, Lies};
 ghost use Rattle.sheet_index.specs.Tables.{Indexed};
 ghost use Rattle.step.specs.Moves.{Known, knownOf};
-ghost use Rattle.step.specs.Taking.{problemWith, Kept};
+ghost use Rattle.step.specs.Taking.{problemWith, ValidGoals};
 ghost use Rattle.network.specs.Goals.{countIn, entryIn, listIn, Within};
 ghost use Rattle.search_theory.specs.Rules as Rules;
-ghost use Rattle.search_pruning.specs.Tests.{stepOf, actionNumber, before, swapReady, crowded as isCrowded};
+ghost use Rattle.search_pruning.specs.Tests.{stepOf, actionNumber, earlierChoice, swapReady, crowded as isCrowded};
 ghost use Rattle.hgn.specs.Search.{mostDepth};
 
 // What a move asks of the state at a goal: that it holds, or that the needs do.
@@ -75,7 +75,7 @@ pub fn crowded(left: u16, count: u16, mv: Move) -> bool
 }
 
 // The action's effects hold already, so it leaves the state as it was.
-pub fn idle<'a>(
+pub fn has_no_effect<'a>(
     shop: &'a [u16],
     order: &'a [u16],
     tables: &[u16],
@@ -83,7 +83,7 @@ pub fn idle<'a>(
     mv: Move,
 ) -> bool
     requires { ⌜ Indexed (now shop) (now order) (now tables) × Known (actionCount (now shop)) (methodCount (now shop)) mv ⌝ }
-    ensures { λ r. ⌜ r ≡ Rules.idle (domain (now (shop .entry))) (now (atoms .entry)) (knownOf mv) ⌝ }
+    ensures { λ r. ⌜ r ≡ Rules.hasNoEffect (domain (now (shop .entry))) (now (atoms .entry)) (knownOf mv) ⌝ }
 {
     match mv {
         Move::Release => false,
@@ -96,14 +96,14 @@ pub fn idle<'a>(
 }
 
 // An action with these rows is relevant to a free goal at a place below this one.
-fn helps_lower<'a>(
+fn relevant_lower<'a>(
     shop: &'a [u16],
     order: &'a [u16],
     goals: &[u16; Goals::WORDS],
     rows: Part,
     place: Place,
 ) -> bool
-    requires { ⌜ Kept (now shop) (now order) (now goals) × (place .0 ≤ countIn (now goals)) × Lies (now shop) rows ⌝ }
+    requires { ⌜ ValidGoals (now shop) (now order) (now goals) × (place .0 ≤ countIn (now goals)) × Lies (now shop) rows ⌝ }
     ensures { λ r. ⌜ r ≡ any
         (λ g. relevant (literalsOf Tag.makesTrue Tag.makesFalse (partRows (now (shop .entry)) rows)) (g .formula)
         && freeIn (listIn (now (shop .entry)) (now (order .entry)) (now (goals .entry))) g)
@@ -117,7 +117,7 @@ fn helps_lower<'a>(
         if goals::is_free(goals, Place(here)) {
             let goal = goals::entry_at(goals, Place(here));
             let wants = goal.rows;
-            if parts::helps(shop, order, rows, tag::MAKES_TRUE, tag::MAKES_FALSE, wants) {
+            if parts::relevant_to(shop, order, rows, tag::MAKES_TRUE, tag::MAKES_FALSE, wants) {
                 return true;
             }
         }
@@ -134,7 +134,7 @@ pub fn lower_too<'a>(
     choice: Choice,
 ) -> bool
     requires { ⌜ Indexed (now shop) (now order) (now tables) × Known (actionCount (now shop)) (methodCount (now shop)) (choice .mv) ⌝ }
-    requires { ⌜ Kept (now shop) (now order) (now goals) × (choice .place .0 ≤ countIn (now goals)) ⌝ }
+    requires { ⌜ ValidGoals (now shop) (now order) (now goals) × (choice .place .0 ≤ countIn (now goals)) ⌝ }
     ensures { λ r. ⌜ r ≡ Rules.lowerToo (rulesOf (now (shop .entry))) (listIn (now (shop .entry)) (now (order .entry)) (now (goals .entry))) (choice .place .0) (knownOf (choice .mv)) ⌝ }
 {
     let mv = choice.mv;
@@ -142,7 +142,7 @@ pub fn lower_too<'a>(
         Move::Release => false,
         Move::Act(action) => {
             let rows = operators::action_part(shop, tables, action);
-            helps_lower(shop, order, goals, rows, choice.place)
+            relevant_lower(shop, order, goals, rows, choice.place)
         }
         Move::Use(method) => false,
     }
@@ -208,8 +208,8 @@ fn action_of(mv: Move) -> u16
 }
 
 // A step after the last one would come earlier in the order on traces if it were taken first.
-fn goes_first(last: Choice, choice: Choice) -> bool
-    ensures { λ r. ⌜ r ≡ before last choice ⌝ }
+fn is_earlier(last: Choice, choice: Choice) -> bool
+    ensures { λ r. ⌜ r ≡ earlierChoice last choice ⌝ }
 {
     let place = choice.place;
     let mv = choice.mv;
@@ -320,7 +320,7 @@ fn swap_ready<'a>(
 }
 
 // The step could have been taken before the last one with the same result. The last one was taken from this state and these goals.
-pub fn could_go_first<'a>(
+pub fn commutes_with_last<'a>(
     shop: &'a [u16],
     order: &'a [u16],
     tables: &[u16],
@@ -329,12 +329,12 @@ pub fn could_go_first<'a>(
     last: Choice,
     choice: Choice,
 ) -> bool
-    requires { ⌜ Indexed (now shop) (now order) (now tables) × Kept (now shop) (now order) (now goals) × (last .place .0 < countIn (now goals)) ⌝ }
+    requires { ⌜ Indexed (now shop) (now order) (now tables) × ValidGoals (now shop) (now order) (now goals) × (last .place .0 < countIn (now goals)) ⌝ }
     requires { ⌜ Known (actionCount (now shop)) (methodCount (now shop)) (last .mv) × Known (actionCount (now shop)) (methodCount (now shop)) (choice .mv) ⌝ }
-    ensures { λ r. ⌜ r ≡ Rules.couldGoFirst (domain (now (shop .entry)))
+    ensures { λ r. ⌜ r ≡ Rules.commutesWithLast (domain (now (shop .entry)))
         (problemWith (now (shop .entry)) (now (order .entry)) (now (atoms .entry)) (now (goals .entry))) (stepOf last) (stepOf choice) ⌝ }
 {
-    if goes_first(last, choice) {
+    if is_earlier(last, choice) {
         if goals::is_free(goals, choice.place) {
             return swap_ready(shop, order, tables, atoms, goals, last, choice);
         }

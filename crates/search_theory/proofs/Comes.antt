@@ -11,15 +11,15 @@ use lib.ListN.{length, getD, set}
 use Rattle.hgn.specs.Lists.{all, At}
 use Rattle.hgn.specs.Meaning.{Literal, Formula, Node, Domain, lastAfterAll, networkOf}
 use Rattle.hgn.specs.State.{State, assign, literalHolds, allHold, formulaHolds, atomsOf, γ, contains}
-use Rattle.hgn.specs.Network.{Origin, Name, Waiting, step, enter, goalAt, noGoal, decomposed}
+use Rattle.hgn.specs.Network.{Origin, Name, Waiting, from-step, enter, goalAt, noGoal, decomposed}
 use Rattle.hgn.specs.Run.{Step, Move, act, use-method, moveOf, actionAt, methodAt, Problem, Rules, Deed, taken, stepped, runBy}
-use Rattle.hgn.proofs.Tests.{beq-true, false-not-true, any-true, all-true, contains-iff, at-of-lt}
-use Rattle.hgn.proofs.Steps.{Moved, by-release, by-action, by-method, took}
-use Rattle.hgn.proofs.Moves.{Reads, as-action, reads}
-use Rattle.hgn.proofs.Waiting.{stays, inserted-old, inserted-new}
-use Rattle.hgn.proofs.Runs.{ended-empty}
-use Rattle.hgn.proofs.Best.{Runs, runs-head}
-use Rattle.search_theory.specs.Needed.{Makes, needsOf, OnlyMaker, InEvery}
+use Rattle.hgn.proofs.Logic.Tests.{beq-true, false-not-true, any-true, all-true, contains-iff, at-of-lt}
+use Rattle.hgn.proofs.Run.Steps.{Moved, by-release, by-action, by-method, took}
+use Rattle.hgn.proofs.Run.Moves.{Reads, as-action, reads}
+use Rattle.hgn.proofs.Network.Waiting.{stays, inserted-old, inserted-new}
+use Rattle.hgn.proofs.Run.Runs.{ended-empty}
+use Rattle.hgn.proofs.Search.Best.{Runs, runs-head}
+use Rattle.search_theory.specs.Needed.{Makes, needsOf, OnlyAchiever, InEvery}
 
 -- An atom keeps its value where it is set to no other.
 set-keeps : (s : State) (a p : ℕ) (b c : Bool) → (p ≡ a → b ≡ c) → getD s p false ≡ c → getD (set s a b) p false ≡ c
@@ -109,7 +109,7 @@ module _ (r : Rules) where
         → stepped r n P x ≡ taken deed P′ → Comes l (suc n) P′ xs → Comes l n P (x ∷ xs)
 
   -- Where it does not hold at first, an action before that moment made it.
-  pub comes-made : {l : Literal} {k : ℕ} → OnlyMaker (r .domain) l k → {n : ℕ} {P : Problem} {xs : List Step} → literalHolds (P .state) l ≡ false
+  pub comes-made : {l : Literal} {k : ℕ} → OnlyAchiever (r .domain) l k → {n : ℕ} {P : Problem} {xs : List Step} → literalHolds (P .state) l ≡ false
       → Comes l n P xs → Makes (r .domain) xs (act k)
   comes-made o f (now e) = absurd (false-not-true _ f e)
   comes-made {l} {k} o {n} {P} f (later {x = x} {xs = xs} {deed = deed} e c) =
@@ -144,7 +144,7 @@ module _ (r : Rules) where
           ⊎-elim (λ q. now (every-holds (P .state) (g .formula) l v (ap (λ (u : Waiting). formulaHolds (P .state) (u .formula)) q ∙ h))) ih (stays a m)
       go a (by-action h b) ih = ih m
       go {p} a (by-method {m = j} h b c) ih =
-          ih (inserted-old (enter (step n) (some (goalAt (P .waiting) p .name)) 0 (networkOf (methodAt (r .domain) j))) a m)
+          ih (inserted-old (enter (from-step n) (some (goalAt (P .waiting) p .name)) 0 (networkOf (methodAt (r .domain) j))) a m)
 
   -- The literal comes in every accepted run that begins with the move.
   abbrev pub ComesBy : Literal → Move → Type 0
@@ -180,8 +180,8 @@ module _ (r : Rules) where
   node-waits {j} {v} m {n} {p} {P} (by-method a b c) =
       let parent = some (goalAt (P .waiting) p .name) in
       let nodes = methodAt (r .domain) j .nodes in
-      let e = Memᴰ·of-map (λ (g : Waiting). g .formula) (enter (step n) parent 0 (lastAfterAll 0 nodes))
-      (subst (List·Memᴰ (v .formula)) (sym (enter-formulas (step n) parent 0 0 nodes)) (Memᴰ·map (λ (k : Node). k .formula) m)) in
+      let e = Memᴰ·of-map (λ (g : Waiting). g .formula) (enter (from-step n) parent 0 (lastAfterAll 0 nodes))
+      (subst (List·Memᴰ (v .formula)) (sym (enter-formulas (from-step n) parent 0 0 nodes)) (Memᴰ·map (λ (k : Node). k .formula) m)) in
       (e .0, inserted-new (P .waiting) p (e .1), e .2)
 
   pub node-comes : {l : Literal} {j : ℕ} {v : Node} → List·Memᴰ v (methodAt (r .domain) j .nodes) → InEvery l (v .formula) → ComesBy l (use-method j)

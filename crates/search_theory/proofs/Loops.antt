@@ -10,25 +10,25 @@ use lib.Dec.{leb, leb·zero}
 use lib.ListN.{length, drop, getD, length-append, drop-of-length-le, List·getD-append}
 use lib.Seq.{drop-cons, getD-append-add}
 use borrow.Author.Tests.{leb-true, leb-false}
-use Rattle.hgn.specs.Lists.{from, firstSome}
+use Rattle.hgn.specs.Lists.{range, firstSome}
 use Rattle.hgn.specs.Meaning.{Domain}
 use Rattle.hgn.specs.Network.{Waiting, free, goalAt}
 use Rattle.hgn.specs.Run.{Step, firstMethod, Problem, Rules, Stepped, refused, taken, stepped}
 use Rattle.hgn.specs.Trace.{step}
 use Rattle.hgn.specs.Search.{movesOf, stepsAt, candidates}
-use Rattle.hgn.proofs.Tests.{false-not-true}
-use Rattle.hgn.proofs.Steps.{took}
+use Rattle.hgn.proofs.Logic.Tests.{false-not-true}
+use Rattle.hgn.proofs.Run.Steps.{took}
 use Rattle.search_theory.specs.Pruned.{behind, prunedOf, moveAt, movesFrom, placesFrom}
 
 -- Numbers in a row.
 
-length-from : (i n : ℕ) → length (from i n) ≡ n
-unfolding from
+length-from : (i n : ℕ) → length (range i n) ≡ n
+unfolding range
 length-from i zero = refl
 length-from i (suc n) = ap suc (length-from (suc i) n)
 
-from-at : (i n j : ℕ) → j < n → getD (from i n) j 0 ≡ i + j
-unfolding from
+from-at : (i n j : ℕ) → j < n → getD (range i n) j 0 ≡ i + j
+unfolding range
 from-at i zero j h = absurd (omega arith)
 from-at i (suc n) zero h = omega arith
 from-at i (suc n) (suc j) h = from-at (suc i) n j (omega arith) ∙ omega arith
@@ -39,7 +39,7 @@ module _ (d : Domain) where
   pub moves-count : length (movesOf d) ≡ 1 + length (d .actions) + length (d .methods)
   unfolding movesOf
   moves-count =
-      let a = length-append (from 1 (length (d .actions))) (from firstMethod (length (d .methods))) in
+      let a = length-append (range 1 (length (d .actions))) (range firstMethod (length (d .methods))) in
       omega (arith, a, length-from 1 (length (d .actions)), length-from firstMethod (length (d .methods)))
 
   -- `moveAt` reads the list of moves.
@@ -52,10 +52,10 @@ module _ (d : Domain) where
       K = length (d .actions)
 
       actions : List ℕ
-      actions = from 1 K
+      actions = range 1 K
 
       methods : List ℕ
-      methods = from firstMethod (length (d .methods))
+      methods = range firstMethod (length (d .methods))
 
       go : (b : Bool) → leb (suc j) K ≡ b → getD (actions ++ methods) j 0 ≡ cond b (suc j) (firstMethod + (suc j - suc K))
       go true e =
@@ -96,17 +96,17 @@ module _ (f : Step → Option (List Step)) (d : Domain) where
   places-all w = rw (sub-zero (length w)) refl
 
   pub places-next : (w : List Waiting) (p : ℕ) → p < length w → placesFrom f d w p ≡ orElse (movesFrom f d p 0) (placesFrom f d w (suc p))
-  unfolding placesFrom movesFrom flatten from stepsAt
+  unfolding placesFrom movesFrom flatten range stepsAt
   places-next w p h =
       let q : length w - p ≡ suc (length w - suc p) = omega arith in
-      ap {B = Option (List Step)} (λ (k : ℕ). firstSome f (flatten (map (stepsAt d) (from p k)))) q
-      ∙ first-append f (stepsAt d p) (flatten (map (stepsAt d) (from (suc p) (length w - suc p))))
+      ap {B = Option (List Step)} (λ (k : ℕ). firstSome f (flatten (map (stepsAt d) (range p k)))) q
+      ∙ first-append f (stepsAt d p) (flatten (map (stepsAt d) (range (suc p) (length w - suc p))))
 
   pub places-end : (w : List Waiting) (p : ℕ) → length w ≤ p → placesFrom f d w p ≡ none
-  unfolding placesFrom flatten from firstSome
+  unfolding placesFrom flatten range firstSome
   places-end w p h =
       let q : length w - p ≡ 0 = omega arith in
-      ap {B = Option (List Step)} (λ (k : ℕ). firstSome f (flatten (map (stepsAt d) (from p k)))) q
+      ap {B = Option (List Step)} (λ (k : ℕ). firstSome f (flatten (map (stepsAt d) (range p k)))) q
 
   pub moves-next : (p i : ℕ) → i < length (movesOf d) → movesFrom f d p i ≡ orElse (f (step (moveAt d i) p)) (movesFrom f d p (suc i))
   unfolding movesFrom

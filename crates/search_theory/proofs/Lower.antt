@@ -13,9 +13,9 @@ use Rattle.hgn.specs.Run.{Step, Move, moveOf, actionAt, Problem, Rules, Deed}
 use Rattle.hgn.specs.Run as Run
 use Rattle.hgn.specs.Trace.{step}
 use Rattle.hgn.specs.Search.{lower-place}
-use Rattle.hgn.proofs.Tests.{and-true, not-true-false, any-true, mem-at, at-lt, at-getD}
-use Rattle.hgn.proofs.Steps.{Moved, by-release, by-action, by-method, took, takes}
-use Rattle.hgn.proofs.Best.{Runs, Best, runs-head, runs-cons}
+use Rattle.hgn.proofs.Logic.Tests.{and-true, not-true-false, any-true, mem-at, at-lt, at-getD}
+use Rattle.hgn.proofs.Run.Steps.{Moved, by-release, by-action, by-method, took, takes}
+use Rattle.hgn.proofs.Search.Best.{Runs, Best, runs-head, runs-cons}
 use Rattle.search_theory.specs.Rules.{lowerToo}
 
 -- A goal before place `p` stands at a lower place.

@@ -14,14 +14,14 @@ use borrow.Author.Tests.{eqb-true, eqb-false}
 use Rattle.hgn.specs.Lists.{At}
 use Rattle.hgn.specs.Meaning.{Literal, Node, noNode, networkOf}
 use Rattle.hgn.specs.State.{literalHolds, contains}
-use Rattle.hgn.specs.Network.{Name, Waiting, step, enter, goalAt, noGoal, decomposed}
+use Rattle.hgn.specs.Network.{Name, Waiting, from-step, enter, goalAt, noGoal, decomposed}
 use Rattle.hgn.specs.Run.{Step, Move, act, use-method, moveOf, actionAt, methodAt, Problem, Rules, Deed}
-use Rattle.hgn.proofs.Tests.{not-true-false, false-not-true, at-mem, at-getD, at-lt, at-of-lt, mem-at}
-use Rattle.hgn.proofs.Steps.{Moved, by-release, by-action, by-method, took}
-use Rattle.hgn.proofs.Moves.{method-known}
-use Rattle.hgn.proofs.Waiting.{released-mem, inserted-cases}
-use Rattle.hgn.proofs.Best.{Runs, runs-head}
-use Rattle.search_theory.specs.Needed.{Makes, Needed, Hopeless, needsOf, OnlyMaker, nodeIn, OnlyMethod, InEvery}
+use Rattle.hgn.proofs.Logic.Tests.{not-true-false, false-not-true, at-mem, at-getD, at-lt, at-of-lt, mem-at}
+use Rattle.hgn.proofs.Run.Steps.{Moved, by-release, by-action, by-method, took}
+use Rattle.hgn.proofs.Run.Moves.{method-known}
+use Rattle.hgn.proofs.Network.Waiting.{released-mem, inserted-cases}
+use Rattle.hgn.proofs.Search.Best.{Runs, runs-head}
+use Rattle.search_theory.specs.Needed.{Makes, Needed, Hopeless, needsOf, OnlyAchiever, nodeIn, OnlyMethod, InEvery}
 use Rattle.search_theory.proofs.Comes.{enter-formulas, action-known, makes-later, makes-cases, comes-made, goal-comes, move-comes, need-comes, node-comes}
 
 module _ (r : Rules) where
@@ -32,12 +32,12 @@ module _ (r : Rules) where
   module _ (k m : ℕ) (o : OnlyMethod r k m) where
     -- Another method brings in no goal for which the action may be taken.
     none-entered : (j : ℕ) → j < length (r .domain .methods) → (j ≡ m → ⊥) → (n : ℕ) (parent : Option Name)
-        → NoneFor k (enter (step n) parent 0 (networkOf (methodAt (r .domain) j)))
+        → NoneFor k (enter (from-step n) parent 0 (networkOf (methodAt (r .domain) j)))
     unfolding networkOf
     none-entered j b h n parent g i = not-true-false _ λ e.
         let nodes = methodAt (r .domain) j .nodes in
         let f = Memᴰ·of-map (λ (v : Node). v .formula) nodes
-        (subst (List·Memᴰ (g .formula)) (enter-formulas (step n) parent 0 0 nodes) (Memᴰ·map (λ (q : Waiting). q .formula) i)) in
+        (subst (List·Memᴰ (g .formula)) (enter-formulas (from-step n) parent 0 0 nodes) (Memᴰ·map (λ (q : Waiting). q .formula) i)) in
         let a = mem-at (f .1) in
         h (o j (a .0) b (at-lt (a .1))
         (ap (λ (v : Node). r .mayAct (actionAt (r .domain) k) (v .formula)) (at-getD noNode (a .1))
@@ -73,22 +73,22 @@ module _ (r : Rules) where
                 let parent = some (goalAt (P .waiting) p .name) in
                 ih λ g i.
                 ⊎-elim (h g) (none-entered j (method-known (r .domain) (x .move) j q) (eqb-false j m y) n parent g)
-                (inserted-cases (enter (step n) parent 0 (networkOf (methodAt (r .domain) j))) a i)
+                (inserted-cases (enter (from-step n) parent 0 (networkOf (methodAt (r .domain) j))) a i)
 
   -- The ways in which a move is needed.
 
   module _ (P : Problem) where
     pub needed-by-goal : (g : Waiting) (l : Literal) (k : ℕ) → List·Memᴰ g (P .waiting) → InEvery l (g .formula)
-        → literalHolds (P .state) l ≡ false → OnlyMaker (r .domain) l k → Needed r P (act k)
+        → literalHolds (P .state) l ≡ false → OnlyAchiever (r .domain) l k → Needed r P (act k)
     needed-by-goal g l k i v f o n xs deeds last e = comes-made r o f (goal-comes r v n P xs (deeds, last, e) i)
 
     pub needed-by-need : (m : Move) (l : Literal) (k : ℕ) → Needed r P m → contains (needsOf (r .domain) m) l ≡ true
-        → literalHolds (P .state) l ≡ false → OnlyMaker (r .domain) l k → Needed r P (act k)
+        → literalHolds (P .state) l ≡ false → OnlyAchiever (r .domain) l k → Needed r P (act k)
     needed-by-need m l k h c f o n xs deeds last e =
         comes-made r o f (move-comes r (need-comes r c) n P xs (deeds, last, e) (h n xs deeds last e))
 
     pub needed-by-node : (m i : ℕ) (l : Literal) (k : ℕ) → Needed r P (use-method m) → i < length (methodAt (r .domain) m .nodes)
-        → InEvery l (nodeIn (r .domain) m i .formula) → literalHolds (P .state) l ≡ false → OnlyMaker (r .domain) l k → Needed r P (act k)
+        → InEvery l (nodeIn (r .domain) m i .formula) → literalHolds (P .state) l ≡ false → OnlyAchiever (r .domain) l k → Needed r P (act k)
     needed-by-node m i l k h b v f o n xs deeds last e =
         comes-made r o f
         (move-comes r (node-comes r (at-mem (at-of-lt (methodAt (r .domain) m .nodes) i noNode b)) v) n P xs (deeds, last, e) (h n xs deeds last e))

@@ -8,26 +8,26 @@ use mathlib.Core.Option.{Option, none, Option·map}
 use lib.Dec.{eqb}
 use lib.ListN.{length}
 use borrow.Author.Tests.{le-ltb}
-use Rattle.hgn.specs.Lists.{from}
+use Rattle.hgn.specs.Lists.{range}
 use Rattle.hgn.specs.Meaning.{Domain}
 use Rattle.hgn.specs.Questions.{passed}
 use Rattle.hgn.specs.Run.{Step, Problem, problemOf, Rules, Stepped, refused, taken, stepped}
 use Rattle.hgn.specs.Order.{order, checkOrder}
 use Rattle.hgn.specs.Replay.{rulesOf}
 use Rattle.hgn.specs.Search.{candidates, firstShortest, searched, mostDepth}
-use Rattle.hgn.proofs.Tests.{false-or}
-use Rattle.hgn.proofs.Checked.{shop-of-order, shop-actions}
-use Rattle.hgn.proofs.Names.{Named, named-goals, named-next}
-use Rattle.hgn.proofs.Best.{Best, best-head, best-tail}
-use Rattle.hgn.proofs.Candidates.{first-cong}
-use Rattle.hgn.proofs.Pruning as Pruning
-use Rattle.hgn.proofs.Pruning.{keptOf, Kept, kept-end, kept-step}
-use Rattle.hgn.proofs.Shortest.{pruned-is-plain}
-use Rattle.search_theory.specs.Rules.{goesFirst, couldGoFirst, leftOut}
+use Rattle.hgn.proofs.Logic.Tests.{false-or}
+use Rattle.hgn.proofs.Sheets.Checked.{shop-of-order, shop-actions}
+use Rattle.hgn.proofs.Network.Names.{Named, named-goals, named-next}
+use Rattle.hgn.proofs.Search.Best.{Best, best-head, best-tail}
+use Rattle.hgn.proofs.Search.Candidates.{first-cong}
+use Rattle.hgn.proofs.Search.Pruning as Pruning
+use Rattle.hgn.proofs.Search.Pruning.{keptOf, Kept, kept-end, kept-step}
+use Rattle.hgn.proofs.Search.Shortest.{pruned-is-plain}
+use Rattle.search_theory.specs.Rules.{isEarlier, commutesWithLast, leftOut}
 use Rattle.search_theory.specs.Pruned.{behind, prunedOf, noStep, prunedShortest}
 use Rattle.search_theory.proofs.TooFew.{few-best}
 use Rattle.search_theory.proofs.Lower.{lower-best}
-use Rattle.search_theory.proofs.Idle.{idle-best}
+use Rattle.search_theory.proofs.NoEffect.{no-effect-best}
 use Rattle.search_theory.proofs.Swaps.{first-best}
 
 -- The search is the general one with the rule `leftOut r`.
@@ -47,11 +47,11 @@ pruned-is-kept (suc k) r P₀ y n P =
 -- The first of the steps, if there is one, could not have gone before `y`.
 abbrev Follows : Domain → Problem → Step → List Step → Type 0
 Follows d P₀ y [] = Unit {0}
-Follows d P₀ y (x ∷ xs) = couldGoFirst d P₀ y x ≡ false
+Follows d P₀ y (x ∷ xs) = commutesWithLast d P₀ y x ≡ false
 
 -- Nothing goes before a release at place 0.
-none-first : (d : Domain) (x : Step) → goesFirst d noStep x ≡ false
-unfolding goesFirst
+none-first : (d : Domain) (x : Step) → isEarlier d noStep x ≡ false
+unfolding isEarlier
 none-first d x = rw (le-ltb (x .place) 0 (omega arith), le-ltb (x .move) 0 (omega arith)) (go (eqb (x .place) 0))
   where
     go : (b : Bool) → (b && false) ≡ false
@@ -59,7 +59,7 @@ none-first d x = rw (le-ltb (x .place) 0 (omega arith), le-ltb (x .move) 0 (omeg
     go false = refl
 
 follows-none : (d : Domain) (P : Problem) (xs : List Step) → Follows d P noStep xs
-unfolding couldGoFirst
+unfolding commutesWithLast
 follows-none d P [] = tt
 follows-none d P (x ∷ xs) = rw (none-first d x) refl
 
@@ -78,7 +78,7 @@ best-kept r P₀ y n P (x ∷ xs) h l b f =
     let t = best-head b in
     let rest = best-tail b (t .2) in
     kept-step (t .2)
-    (false-or _ _ (idle-best r n P x xs h b)
+    (false-or _ _ (no-effect-best r n P x xs h b)
     (false-or _ _ (lower-best r n P x xs b)
     (false-or _ _ (few-best r (suc n) (t .1) xs (rest .runs)) f)))
     (best-kept r P x (suc n) (t .1) xs (named-next r n P x (t .0) (t .1) h (t .2)) (omega arith) rest
@@ -89,7 +89,7 @@ pub pruned-shortest : (depth : ℕ) (r : Rules) (P : Problem) → length (r .dom
     → prunedShortest depth r P ≡ firstShortest depth r P
 unfolding prunedShortest
 pruned-shortest depth r P b m h =
-    first-cong _ _ (from 0 (suc depth)) (λ k. pruned-is-kept k r P noStep 0 P)
+    first-cong _ _ (range 0 (suc depth)) (λ k. pruned-is-kept k r P noStep 0 P)
     ∙ pruned-is-plain depth r P b (leftOut r) noStep
     (λ xs best l. best-kept r P noStep 0 P xs h (omega arith) best (follows-none (r .domain) P xs))
 

@@ -1,4 +1,4 @@
--- A step that could have gone first does not stand on the first of the shortest traces: with the two exchanged the trace is accepted
+-- A step that commutes with the last does not stand on the first of the shortest traces: with the two exchanged the trace is accepted
 -- too, and earlier. The two lists of goals differ only in the names of the two steps. Assumes nothing.
 use Prim.Native.Nat.{ℕ, suc, _≤_, _<_}
 use native.Mathlib.Omega.{arith}
@@ -14,18 +14,18 @@ use lib.Seq.{split-at}
 use borrow.Author.Tests.{eqb-true, eqb-false, eq-eqb, ne-eqb, ltb-true}
 use Rattle.hgn.specs.Meaning.{Domain, networkOf}
 use Rattle.hgn.specs.State.{State}
-use Rattle.hgn.specs.Network.{Waiting, step, free, enter, goalAt, noGoal}
+use Rattle.hgn.specs.Network.{Waiting, from-step, free, enter, goalAt, noGoal}
 use Rattle.hgn.specs.Run.{Step, Move, release, act, use-method, unknown, moveOf, methodAt, Problem, Rules, Deed, deedOf, taken, stepped, run}
 use Rattle.hgn.specs.Search.{lower-place, lower-move}
-use Rattle.hgn.specs.Definition1.{Listed}
-use Rattle.hgn.proofs.Tests.{and-true, or-true, beq-true, not-true-false, free-iff-none-listed}
-use Rattle.hgn.proofs.Steps.{Moved, by-release, by-action, by-method, Took, took, takes}
-use Rattle.hgn.proofs.Names.{Fresh, Distinct, Named, strangers}
-use Rattle.hgn.proofs.Embedding.{renamedDeed}
-use Rattle.hgn.proofs.Renaming.{Injective, rename, later, enter-renamed, run-renamed, rename-kept, list-kept}
-use Rattle.hgn.proofs.Waits.{waits-at-most}
-use Rattle.hgn.proofs.Best.{Runs, Best, runs-head, runs-cons, best-head}
-use Rattle.search_theory.specs.Rules.{ready, stateAfter, sameState, commute, isAction, goesFirst, couldGoFirst}
+use Rattle.hgn.specs.Definition1.{ComesAfter}
+use Rattle.hgn.proofs.Logic.Tests.{and-true, or-true, beq-true, not-true-false, free-iff-none-listed}
+use Rattle.hgn.proofs.Run.Steps.{Moved, by-release, by-action, by-method, Took, took, takes}
+use Rattle.hgn.proofs.Network.Names.{Fresh, Distinct, Named, strangers}
+use Rattle.hgn.proofs.Join.Embedding.{renamedDeed}
+use Rattle.hgn.proofs.Join.Renaming.{Injective, rename, later, enter-renamed, run-renamed, rename-kept, list-kept}
+use Rattle.hgn.proofs.Search.Waits.{waits-at-most}
+use Rattle.hgn.proofs.Search.Best.{Runs, Best, runs-head, runs-cons, best-head}
+use Rattle.search_theory.specs.Rules.{ready, stateAfter, sameState, commute, isAction, isEarlier, commutesWithLast}
 use Rattle.search_theory.proofs.Places.{into, problem, Did, goal-there, did, does}
 
 -- States.
@@ -92,10 +92,10 @@ module _ (n : ℕ) where
   into-exchanged d k g (act j) f = ap {B = List Waiting} (λ q. q ∷ []) (rename-kept (exchange n) n exchange-below g f)
   into-exchanged d k g (use-method m) f =
       let e = rename-kept (exchange n) n exchange-below g f in
-      map-append (rename 0 (exchange n)) (enter (step k) (some (g .name)) 0 (networkOf (methodAt d m))) (g ∷ [])
+      map-append (rename 0 (exchange n)) (enter (from-step k) (some (g .name)) 0 (networkOf (methodAt d m))) (g ∷ [])
       ∙ ap₂ {C = List Waiting} (λ u v. u ++ v)
       (enter-renamed 0 (exchange n) k 0 (g .name) (networkOf (methodAt d m))
-      ∙ ap {B = List Waiting} (λ (q : Waiting). enter (step (exchange n k)) (some (q .name)) 0 (networkOf (methodAt d m))) e)
+      ∙ ap {B = List Waiting} (λ (q : Waiting). enter (from-step (exchange n k)) (some (q .name)) 0 (networkOf (methodAt d m))) e)
       (ap {B = List Waiting} (λ q. q ∷ []) e)
   into-exchanged d k g unknown f = ap {B = List Waiting} (λ q. q ∷ []) (rename-kept (exchange n) n exchange-below g f)
 
@@ -113,37 +113,37 @@ still-free d n a g v h m named k f = free-iff-none-listed _ h .1 none-listed
     waits : List·Memᴰ h (a ++ (g ∷ v))
     waits = Memᴰ·append-right a (List·Memᴰ·tail k)
 
-    before : (e : Waiting) → List·Memᴰ e (a ++ (g ∷ v)) → ¬ Listed e h
+    before : (e : Waiting) → List·Memᴰ e (a ++ (g ∷ v)) → ¬ ComesAfter h e
     before = free-iff-none-listed _ h .0 f
 
-    at-g : (e : Waiting) → List·Memᴰ e (g ∷ []) → ¬ Listed e h
+    at-g : (e : Waiting) → List·Memᴰ e (g ∷ []) → ¬ ComesAfter h e
     at-g e j = before e (Memᴰ·append-right a (List·Memᴰ·head (List·Memᴰ·eq-of-singleton j)))
 
-    entered : (e : Waiting) (m : Move) → List·Memᴰ e (into d n g m) → ¬ Listed e h
+    entered : (e : Waiting) (m : Move) → List·Memᴰ e (into d n g m) → ¬ ComesAfter h e
     entered e release j = absurd (List·Memᴰ·not-nil j)
     entered e (act i) j = at-g e j
     entered e (use-method i) j =
         ⊎-elim (λ new l. later-other a g v (named .distinct) h k (strangers (networkOf (methodAt d i)) named h e waits new .before-parent l)) (at-g e)
-        (List·Memᴰ·append-cases (enter (step n) (some (g .name)) 0 (networkOf (methodAt d i))) j)
+        (List·Memᴰ·append-cases (enter (from-step n) (some (g .name)) 0 (networkOf (methodAt d i))) j)
     entered e unknown j = at-g e j
 
-    none-listed : (e : Waiting) → List·Memᴰ e (a ++ (into d n g m ++ v)) → ¬ Listed e h
+    none-listed : (e : Waiting) → List·Memᴰ e (a ++ (into d n g m ++ v)) → ¬ ComesAfter h e
     none-listed e j =
         ⊎-elim (λ i. before e (Memᴰ·append-left (g ∷ v) i))
         (λ i. ⊎-elim (entered e m) (λ o. before e (Memᴰ·append-right a (List·Memᴰ·tail o))) (List·Memᴰ·append-cases (into d n g m) i))
         (List·Memᴰ·append-cases a j)
 
 -- What the test says, part by part.
-record Could (d : Domain) (P : Problem) (y x : Step) : Type 0 where
-  pub goes : goesFirst d y x ≡ true
+record Commutes (d : Domain) (P : Problem) (y x : Step) : Type 0 where
+  pub goes : isEarlier d y x ≡ true
   pub was-free : free (P .waiting) (goalAt (P .waiting) (x .place)) ≡ true
   pub ready-first : ready d (P .state) (goalAt (P .waiting) (x .place)) (moveOf d (x .move)) ≡ true
   pub ready-then : ready d (stateAfter d (P .state) (moveOf d (x .move))) (goalAt (P .waiting) (y .place)) (moveOf d (y .move)) ≡ true
   pub same : commute d (P .state) (moveOf d (y .move)) (moveOf d (x .move)) ≡ true
 
-could : (d : Domain) (P : Problem) (y x : Step) → couldGoFirst d P y x ≡ true → Could d P y x
-unfolding couldGoFirst
-could d P y x e =
+commutes : (d : Domain) (P : Problem) (y x : Step) → commutesWithLast d P y x ≡ true → Commutes d P y x
+unfolding commutesWithLast
+commutes d P y x e =
     let a = and-true _ _ e in
     let b = and-true _ _ (a .1) in
     let c = and-true _ _ (b .1) in
@@ -274,7 +274,7 @@ module _ (a : List Waiting) (g : Waiting) (b : List Waiting) (h : Waiting) (c : 
             (subst (λ (l : List Waiting). length l ≤ r .limit) (sym (regroup (into d (suc n) h my ++ c))) (omega (arith, short)))
             ∙ ap (λ (l : List Waiting). taken deed-y (problem (stateAfter d (stateAfter d s mx) my) l)) (regroup (into d (suc n) h my ++ c))
 
-  never-lower : Named n w → Best r n (problem s w) (y ∷ x ∷ xs) → length xs < r .limit → Could d (problem s w) y x → ⊥
+  never-lower : Named n w → Best r n (problem s w) (y ∷ x ∷ xs) → length xs < r .limit → Commutes d (problem s w) y x → ⊥
   never-lower named best few k =
       let f = runs-head r n (problem s w) y (x ∷ xs) (best .runs) in
       let e = runs-head r (suc n) (f .1) x xs (f .3) in
@@ -309,7 +309,7 @@ module _ (r : Rules) (n : ℕ) (P : Problem) (y x : Step) (xs : List Step) where
   after-y = problem (stateAfter (r .domain) (P .state) (moveOf (r .domain) (y .move))) (P .waiting)
 
   both-act : Runs r n P (y ∷ x ∷ xs) → isAction (moveOf (r .domain) (x .move)) ≡ true → isAction (moveOf (r .domain) (y .move)) ≡ true
-      → Could (r .domain) P y x → Runs r n P (x ∷ y ∷ xs)
+      → Commutes (r .domain) P y x → Runs r n P (x ∷ y ∷ xs)
   both-act runs is-x is-y k =
       let f = runs-head r n P y (x ∷ xs) runs in
       let by-y = took y (f .0) (f .1) (f .2) in
@@ -322,12 +322,12 @@ module _ (r : Rules) (n : ℕ) (P : Problem) (y x : Step) (xs : List Step) where
       (subst (λ (Q : Problem). Runs r (suc (suc n)) Q xs)
       (did-x .leaves ∙ ap (λ (t : State). problem t (P .waiting)) (sym (either-way (r .domain) (P .state) _ _ (k .same)))) (e .3)))
 
-  module _ (named : Named n (P .waiting)) (best : Best r n P (y ∷ x ∷ xs)) (few : length xs < r .limit) (k : Could (r .domain) P y x) where
+  module _ (named : Named n (P .waiting)) (best : Best r n P (y ∷ x ∷ xs)) (few : length xs < r .limit) (k : Commutes (r .domain) P y x) where
     at-lower : x .place < y .place → ⊥
     at-lower l =
         subst
         (λ (v : List Waiting).
-        Named n v → Best r n (problem (P .state) v) (y ∷ x ∷ xs) → length xs < r .limit → Could (r .domain) (problem (P .state) v) y x → ⊥)
+        Named n v → Best r n (problem (P .state) v) (y ∷ x ∷ xs) → length xs < r .limit → Commutes (r .domain) (problem (P .state) v) y x → ⊥)
         (sym parts)
         (never-lower (take (x .place) u) (goalAt u (x .place)) (drop (suc (x .place)) u) (goalAt v (y .place)) (drop (suc (y .place)) v)
         r n (P .state) y x xs (omega (arith, length-take (x .place) u, up-to-y)) (sym up-to-y ∙ ap length front))
@@ -364,11 +364,11 @@ module _ (r : Rules) (n : ℕ) (P : Problem) (y x : Step) (xs : List Step) where
 
 -- The limit of the waiting list is asked of a method that goes first: the list then is at most one longer than the steps left after both.
 pub first-best : (r : Rules) (n : ℕ) (P : Problem) (y x : Step) (xs : List Step) → Named n (P .waiting) → Best r n P (y ∷ x ∷ xs)
-    → length xs < r .limit → couldGoFirst (r .domain) P y x ≡ false
-unfolding goesFirst
-first-best r n P y x xs named best few = not-true-false _ (λ e. never (could (r .domain) P y x e))
+    → length xs < r .limit → commutesWithLast (r .domain) P y x ≡ false
+unfolding isEarlier
+first-best r n P y x xs named best few = not-true-false _ (λ e. never (commutes (r .domain) P y x e))
   where
-    never : Could (r .domain) P y x → ⊥
+    never : Commutes (r .domain) P y x → ⊥
     never k =
         ⊎-elim (λ l. at-lower r n P y x xs named best few k (ltb-true _ _ l)) (at-one r n P y x xs named best few k)
         (or-true (ltb (x .place) (y .place)) _ (k .goes))

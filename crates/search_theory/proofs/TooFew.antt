@@ -6,9 +6,9 @@ use mathlib.Core.List.{List}
 use lib.ListN.{length}
 use borrow.Author.Tests.{le-ltb, eqb-true}
 use Rattle.hgn.specs.Run.{Step, Problem, Rules}
-use Rattle.hgn.proofs.Tests.{false-or}
-use Rattle.hgn.proofs.Best.{Runs}
-use Rattle.hgn.proofs.Waits.{waits-at-most, waits-all-hold}
+use Rattle.hgn.proofs.Logic.Tests.{false-or}
+use Rattle.hgn.proofs.Search.Best.{Runs}
+use Rattle.hgn.proofs.Search.Waits.{waits-at-most, waits-all-hold}
 use Rattle.search_theory.specs.Rules.{tooFewLeft}
 
 pub few-best : (r : Rules) (n : ℕ) (P : Problem) (xs : List Step) → Runs r n P xs → tooFewLeft (length xs) P ≡ false

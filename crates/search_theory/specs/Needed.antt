@@ -30,8 +30,8 @@ needsOf d (use-method m) = methodAt d m .needs
 needsOf d unknown = []
 
 -- No action but `k` makes the literal. Actions are counted from 1: where `k` is 0, none does.
-abbrev pub OnlyMaker : Domain → Literal → ℕ → Type 0
-OnlyMaker d l k = (j : ℕ) → 1 ≤ j → j ≤ length (d .actions) → contains (actionAt d j .effects) l ≡ true → j ≡ k
+abbrev pub OnlyAchiever : Domain → Literal → ℕ → Type 0
+OnlyAchiever d l k = (j : ℕ) → 1 ≤ j → j ≤ length (d .actions) → contains (actionAt d j .effects) l ≡ true → j ≡ k
 
 -- Node `i` of method `j`.
 abbrev pub nodeIn : Domain → ℕ → ℕ → Node
@@ -47,15 +47,15 @@ abbrev pub InEvery : Literal → Formula → Type 0
 InEvery l f = (c : List Literal) → List·Memᴰ c f → contains c l ≡ true
 
 -- The steps that a move brings with it: itself, and a release for each node of a method.
-unfoldable pub weight : Domain → Move → ℕ
-weight d release = 0
-weight d (act k) = 1
-weight d (use-method m) = suc (length (methodAt d m .nodes))
-weight d unknown = 0
+unfoldable pub stepsOfMove : Domain → Move → ℕ
+stepsOfMove d release = 0
+stepsOfMove d (act k) = 1
+stepsOfMove d (use-method m) = suc (length (methodAt d m .nodes))
+stepsOfMove d unknown = 0
 
-unfoldable pub weights : Domain → List Move → ℕ
-weights d [] = 0
-weights d (m ∷ ms) = weight d m + weights d ms
+unfoldable pub stepsOfMoves : Domain → List Move → ℕ
+stepsOfMoves d [] = 0
+stepsOfMoves d (m ∷ ms) = stepsOfMove d m + stepsOfMoves d ms
 
 -- No move stands twice.
 abbrev pub Different : List Move → Type 0

@@ -5,7 +5,7 @@ use mathlib.Core.List.{List, _∷_, map, flatten}
 use mathlib.Core.Option.{Option, none, Option·map}
 use lib.Dec.{leb}
 use lib.ListN.{length, drop}
-use Rattle.hgn.specs.Lists.{from, firstSome}
+use Rattle.hgn.specs.Lists.{range, firstSome}
 use Rattle.hgn.specs.Meaning.{Domain}
 use Rattle.hgn.specs.Network.{Waiting}
 use Rattle.hgn.specs.Run.{Step, firstMethod, Problem, Rules, Stepped, refused, taken, stepped}
@@ -31,7 +31,7 @@ abbrev pub noStep : Step
 noStep = step 0 0
 
 unfoldable pub prunedShortest : ℕ → Rules → Problem → Option (List Step)
-prunedShortest depth r P = firstSome (λ k. prunedOf k r P noStep 0 P) (from 0 (suc depth))
+prunedShortest depth r P = firstSome (λ k. prunedOf k r P noStep 0 P) (range 0 (suc depth))
 
 -- The move of place `i` in `movesOf`, which holds 0 to K and then the methods.
 unfoldable pub moveAt : Domain → ℕ → ℕ
@@ -44,4 +44,4 @@ movesFrom f d p i = firstSome f (map (λ m. step m p) (drop i (movesOf d)))
 -- The first found from place `p` on.
 unfoldable pub placesFrom : (Step → Option (List Step)) → Domain → List Waiting → ℕ → Option (List Step)
 unfolding flatten
-placesFrom f d w p = firstSome f (flatten (map (stepsAt d) (from p (length w - p))))
+placesFrom f d w p = firstSome f (flatten (map (stepsAt d) (range p (length w - p))))

@@ -25,11 +25,11 @@ lowerToo r w p (use-method m) = false
 lowerToo r w p unknown = false
 
 -- The action's effects hold already, so it leaves the state as it was.
-unfoldable pub idle : Domain → State → Move → Bool
-idle d s (act k) = allHold s (actionAt d k .effects)
-idle d s release = false
-idle d s (use-method m) = false
-idle d s unknown = false
+unfoldable pub hasNoEffect : Domain → State → Move → Bool
+hasNoEffect d s (act k) = allHold s (actionAt d k .effects)
+hasNoEffect d s release = false
+hasNoEffect d s (use-method m) = false
+hasNoEffect d s unknown = false
 
 -- What a move asks of the state at a goal: that it holds, or that the needs do.
 unfoldable pub ready : Domain → State → Waiting → Move → Bool
@@ -70,16 +70,16 @@ isAction unknown = false
 
 -- Step `x` after step `y` would come earlier in the order on traces if it were taken first: at a lower place, or both actions at one
 -- place, the lower first.
-unfoldable pub goesFirst : Domain → Step → Step → Bool
-goesFirst d y x =
+unfoldable pub isEarlier : Domain → Step → Step → Bool
+isEarlier d y x =
     ltb (x .place) (y .place)
     || (eqb (x .place) (y .place) && (ltb (x .move) (y .move) && (isAction (moveOf d (x .move)) && isAction (moveOf d (y .move)))))
 
 -- Step `x`, taken after step `y` from the problem `P`, could have been taken before it with the same result: it goes first, its goal was
 -- free, both ask nothing that fails in that order, and the state comes out the same.
-unfoldable pub couldGoFirst : Domain → Problem → Step → Step → Bool
-couldGoFirst d P y x =
-    goesFirst d y x
+unfoldable pub commutesWithLast : Domain → Problem → Step → Step → Bool
+commutesWithLast d P y x =
+    isEarlier d y x
     && (free (P .waiting) (goalAt (P .waiting) (x .place))
     && (ready d (P .state) (goalAt (P .waiting) (x .place)) (moveOf d (x .move))
     && (ready d (stateAfter d (P .state) (moveOf d (x .move))) (goalAt (P .waiting) (y .place)) (moveOf d (y .move))
@@ -88,7 +88,7 @@ couldGoFirst d P y x =
 -- The step `x` from `P` to `P′`, with so many steps left after it, is left out. The step before it was `y`, from `P₀`.
 unfoldable pub leftOut : Rules → ℕ → Problem → Step → Problem → Step → Problem → Bool
 leftOut r left P₀ y P x P′ =
-    idle (r .domain) (P .state) (moveOf (r .domain) (x .move))
+    hasNoEffect (r .domain) (P .state) (moveOf (r .domain) (x .move))
     || (lowerToo r (P .waiting) (x .place) (moveOf (r .domain) (x .move))
     || (tooFewLeft left P′
-    || couldGoFirst (r .domain) P₀ y x))
+    || commutesWithLast (r .domain) P₀ y x))

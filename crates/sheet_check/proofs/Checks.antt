@@ -9,7 +9,7 @@ use mathlib.Core.List.{List, [], _∷_, _++_}
 use lib.Dec.{eqb}
 use lib.ListN.{length, length-map}
 use borrow.Author.Tests.{eq-eqb, ne-eqb, eqb-true, le-leb, lt-leb, leb-true}
-use Rattle.hgn.specs.Lists.{among, any, parts, upTo}
+use Rattle.hgn.specs.Lists.{elem, any, splitAtEach, takeUntil}
 use Rattle.hgn.specs.Questions.{Question, _asks_, _askedAt_, Verdict, passed, refused, firstNo}
 use Rattle.hgn.specs.Rows.{Row, mostRows, has, rowQuestions, positionAfter}
 use Rattle.hgn.specs.Tag as Tag
@@ -17,29 +17,29 @@ use Rattle.hgn.specs.Meaning.{nodesOf, nodeOf, orderOf}
 use Rattle.hgn.specs.Shop as Shop
 use Rattle.hgn.specs.Order as Order
 use Rattle.hgn.specs.Trace as Trace
-use Rattle.hgn.proofs.Firsts.{passed-cons, Numbers, told-passed, told-on}
-use Rattle.hgn.proofs.Numbers.{rows-numbers}
+use Rattle.hgn.proofs.Questions.FirstNo.{passed-cons, Numbers, answered-passed, answered-on}
+use Rattle.hgn.proofs.Questions.Numbers.{rows-numbers}
 use Rattle.sheet_rows.specs.Reading.{followOf, firstQuestionOf, positionOf}
 use Rattle.sheet_rows.specs.Refusals.{refusalOf}
-use Rattle.sheet_check.specs.Tally.{foundIn, closed}
+use Rattle.sheet_check.specs.PartCounts.{invalidIn, closed}
 use Rattle.sheet_check.specs.Scanned.{Scanned, questionsOf}
 use Rattle.sheet_rows.specs.declared.position.Sheet.{Sheet}
 use Rattle.sheet_rows.specs.declared.position.Sheet.the-variants as Of
 use Rattle.sheet_check.specs.declared.rows.Scan.{Scan}
-use Rattle.sheet_check.specs.declared.tally.Tally.{Tally}
+use Rattle.sheet_check.specs.declared.part_counts.PartCounts.{PartCounts}
 use Rattle.sheet_check.proofs.Counts.{actions-counted, methods-counted, rules-counted}
 use Rattle.sheet_check.proofs.Scans.{first≢0}
 
 -- No question of a row has the number 0.
 rows-numbered : (sheet : Sheet) (F : ℕ) (rows : List Row) → Numbers (λ k. k ≢ 0) (questionsOf sheet F rows)
 rows-numbered sheet F rows =
-    let first = first≢0 sheet in
+    let offender = first≢0 sheet in
     rows-numbers (λ k. k ≢ 0) (λ k l. omega arith) (followOf sheet) (firstQuestionOf sheet) F 0 Tag.opening rows (omega arith) (omega arith) (omega arith)
 
 -- Where the rows passed, the first no is that of what is asked after them, and the scan knows whether the sheet may end.
 module _ (sheet : Sheet) (F : ℕ) (rows : List Row) {s : Scan} (sc : Scanned sheet F rows s) (z : s .refusal .number ≡ 0) where
   ends-follow : (ends : List Question) → firstNo (questionsOf sheet F rows ++ ends) ≡ firstNo ends
-  ends-follow ends = told-on (questionsOf sheet F rows) ends (refusalOf (s .refusal)) (sc .refusal) (rows-numbered sheet F rows) z
+  ends-follow ends = answered-on (questionsOf sheet F rows) ends (refusalOf (s .refusal)) (sc .refusal) (rows-numbered sheet F rows) z
 
   position-same : Tag.mayEnd (positionAfter Tag.opening rows .context) ≡ Tag.mayEnd (positionOf (s .position) .context)
   position-same = ap (λ (p : Tag.Position). Tag.mayEnd (p .context)) (sym (sc .position z))
@@ -80,63 +80,63 @@ module _ (shop : List ℕ) (s : Scan) (sc : Scanned Of.Shop (Shop.atomCount shop
   shop-position : Tag.mayEnd (positionAfter Tag.opening (Shop.shopRows shop) .context) ≡ Tag.mayEnd (positionOf (s .position) .context)
   shop-position = position-same Of.Shop _ _ sc z
 
-  actions-same : length (Shop.domain shop .actions) ≡ s .tally .actions
+  actions-same : length (Shop.domain shop .actions) ≡ s .counts .actions
   unfolding Shop.domain
-  actions-same = sym (ap (λ (t : Tally). t .actions) (sc .tally z) ∙ actions-counted (Shop.shopRows shop))
+  actions-same = sym (ap (λ (t : PartCounts). t .actions) (sc .counts z) ∙ actions-counted (Shop.shopRows shop))
 
-  methods-same : length (Shop.domain shop .methods) ≡ s .tally .methods
+  methods-same : length (Shop.domain shop .methods) ≡ s .counts .methods
   unfolding Shop.domain
-  methods-same = sym (ap (λ (t : Tally). t .methods) (sc .tally z) ∙ methods-counted (Shop.shopRows shop))
+  methods-same = sym (ap (λ (t : PartCounts). t .methods) (sc .counts z) ∙ methods-counted (Shop.shopRows shop))
 
   pub shop-end-7 : Tag.mayEnd (positionOf (s .position) .context) ≡ false → shopEnd ≡ refused ((7 asks false) .refusal)
   unfolding Shop.shopEndQuestions firstNo
   shop-end-7 e = shop-follow ∙ rw (shop-position ∙ e)
 
   module _ (ends : Tag.mayEnd (positionOf (s .position) .context) ≡ true) where
-    pub shop-end-actions : s .tally .actions ≢ Shop.actionCount shop → shopEnd ≡ refused ((8 asks false) .refusal)
+    pub shop-end-actions : s .counts .actions ≢ Shop.actionCount shop → shopEnd ≡ refused ((8 asks false) .refusal)
     unfolding Shop.shopEndQuestions firstNo
-    shop-end-actions e = shop-follow ∙ rw (shop-position ∙ ends, actions-same, ne-eqb (s .tally .actions) (Shop.actionCount shop) e)
+    shop-end-actions e = shop-follow ∙ rw (shop-position ∙ ends, actions-same, ne-eqb (s .counts .actions) (Shop.actionCount shop) e)
 
-    module _ (few : s .tally .actions ≡ Shop.actionCount shop) where
-      pub shop-end-methods : s .tally .methods ≢ Shop.methodCount shop → shopEnd ≡ refused ((8 asks false) .refusal)
+    module _ (few : s .counts .actions ≡ Shop.actionCount shop) where
+      pub shop-end-methods : s .counts .methods ≢ Shop.methodCount shop → shopEnd ≡ refused ((8 asks false) .refusal)
       unfolding Shop.shopEndQuestions firstNo
       shop-end-methods e =
           shop-follow
           ∙ rw (
             shop-position ∙ ends,
             actions-same,
-            eq-eqb (s .tally .actions) (Shop.actionCount shop) few,
+            eq-eqb (s .counts .actions) (Shop.actionCount shop) few,
             methods-same,
-            ne-eqb (s .tally .methods) (Shop.methodCount shop) e,
+            ne-eqb (s .counts .methods) (Shop.methodCount shop) e,
           )
 
-      shop-end-rules : s .tally .methods ≡ Shop.methodCount shop → {t : Tally} → t ≡ closed (s .tally) → shopEnd ≡ foundIn t
+      shop-end-rules : s .counts .methods ≡ Shop.methodCount shop → {t : PartCounts} → t ≡ closed (s .counts) → shopEnd ≡ invalidIn t
       unfolding Shop.shopEndQuestions firstNo Shop.domain
       shop-end-rules e c =
           shop-follow
           ∙ rw (
             shop-position ∙ ends,
             actions-same,
-            eq-eqb (s .tally .actions) (Shop.actionCount shop) few,
+            eq-eqb (s .counts .actions) (Shop.actionCount shop) few,
             methods-same,
-            eq-eqb (s .tally .methods) (Shop.methodCount shop) e,
-          ) (sym (ap foundIn c ∙ ap (λ (t : Tally). foundIn (closed t)) (sc .tally z) ∙ rules-counted (Shop.shopRows shop)))
+            eq-eqb (s .counts .methods) (Shop.methodCount shop) e,
+          ) (sym (ap invalidIn c ∙ ap (λ (t : PartCounts). invalidIn (closed t)) (sc .counts z) ∙ rules-counted (Shop.shopRows shop)))
 
-      module _ (all : s .tally .methods ≡ Shop.methodCount shop) {t : Tally} (c : t ≡ closed (s .tally)) where
-        pub shop-end-9 : t .found ≡ true → shopEnd ≡ refused ((9 asks false askedAt t .first) .refusal)
-        unfolding foundIn
+      module _ (all : s .counts .methods ≡ Shop.methodCount shop) {t : PartCounts} (c : t ≡ closed (s .counts)) where
+        pub shop-end-9 : t .invalid ≡ true → shopEnd ≡ refused ((9 asks false askedAt t .offender) .refusal)
+        unfolding invalidIn
         shop-end-9 e = shop-end-rules all c ∙ rw e
 
-        pub shop-end-passed : t .found ≡ false → shopEnd ≡ passed
-        unfolding foundIn
+        pub shop-end-passed : t .invalid ≡ false → shopEnd ≡ passed
+        unfolding invalidIn
         shop-end-passed e = shop-end-rules all c ∙ rw e
 
 -- No row of an order sheet that passes begins a method, so every node counts.
-order-tag : (c : Tag.Context) (t : ℕ) → among t (Tag.orderFollow c) ≡ true → eqb t Tag.method ≡ false
-unfolding among any Tag.orderFollow
+order-tag : (c : Tag.Context) (t : ℕ) → elem t (Tag.orderFollow c) ≡ true → eqb t Tag.method ≡ false
+unfolding elem any Tag.orderFollow
 order-tag c t e = go (eqb t Tag.method) refl c e
   where
-    go : (b : Bool) → eqb t Tag.method ≡ b → (c : Tag.Context) → among t (Tag.orderFollow c) ≡ true → b ≡ false
+    go : (b : Bool) → eqb t Tag.method ≡ b → (c : Tag.Context) → elem t (Tag.orderFollow c) ≡ true → b ≡ false
     go false q c e = refl
     go true q Tag.atStart e = sym (rw (eqb-true t Tag.method q) at e)
     go true q Tag.inAction e = sym e
@@ -146,8 +146,8 @@ order-tag c t e = go (eqb t Tag.method) refl c e
     go true q Tag.inAlternative e = sym (rw (eqb-true t Tag.method q) at e)
 
 nodes-passed : (F i : ℕ) (p : Tag.Position) (rows : List Row) → firstNo (rowQuestions Tag.orderFollow (firstQuestionOf Of.Order) F i p rows) ≡ passed
-    → positionAfter p rows .nodes ≡ p .nodes + length (parts (has Tag.node) rows)
-unfolding rowQuestions positionAfter parts Tag.advance
+    → positionAfter p rows .nodes ≡ p .nodes + length (splitAtEach (has Tag.node) rows)
+unfolding rowQuestions positionAfter splitAtEach Tag.advance
 nodes-passed F i p [] e = sym (add-zero (p .nodes))
 nodes-passed F i p (r ∷ rows) e =
     let a = passed-cons _ _ e in
@@ -156,8 +156,8 @@ nodes-passed F i p (r ∷ rows) e =
     ∙ count (eqb (r .tag) Tag.method) (eqb (r .tag) Tag.node) (order-tag (p .context) (r .tag) (a .0))
   where
     count : (m n : Bool) → m ≡ false
-        → cond m 0 (cond n (suc (p .nodes)) (p .nodes)) + length (parts (has Tag.node) rows)
-        ≡ p .nodes + length (cond n ((r ∷ upTo (has Tag.node) rows) ∷ parts (has Tag.node) rows) (parts (has Tag.node) rows))
+        → cond m 0 (cond n (suc (p .nodes)) (p .nodes)) + length (splitAtEach (has Tag.node) rows)
+        ≡ p .nodes + length (cond n ((r ∷ takeUntil (has Tag.node) rows) ∷ splitAtEach (has Tag.node) rows) (splitAtEach (has Tag.node) rows))
     count true n q = absurd (true≢false q)
     count false true q = omega arith
     count false false q = refl
@@ -203,10 +203,10 @@ module _ (order : List ℕ) (s : Scan) (sc : Scanned Of.Order (Order.atomCount o
   goals-same : length (Order.order order .goals) ≡ s .position .nodes
   unfolding Order.order orderOf nodesOf
   goals-same =
-      length-map (parts (has Tag.node) (Order.orderRows order)) nodeOf
+      length-map (splitAtEach (has Tag.node) (Order.orderRows order)) nodeOf
       ∙ sym (ap (λ (x : Tag.Position). x .nodes) (sc .position z)
       ∙ nodes-passed (Order.atomCount order) 0 Tag.opening (Order.orderRows order)
-      (told-passed _ [] (refusalOf (s .refusal)) (sc .refusal) (rows-numbered Of.Order (Order.atomCount order) (Order.orderRows order)) z) ∙ zero-add _)
+      (answered-passed _ [] (refusalOf (s .refusal)) (sc .refusal) (rows-numbered Of.Order (Order.atomCount order) (Order.orderRows order)) z) ∙ zero-add _)
 
   pub order-end-17 : Tag.mayEnd (positionOf (s .position) .context) ≡ false → orderEnd ≡ refused ((17 asks false) .refusal)
   unfolding Order.orderEndQuestions firstNo

@@ -1,4 +1,4 @@
--- The counts of `specs/Tally.antt` are those of the definitions: the actions, the methods, and the answer to question 9.
+-- The counts of `specs/PartCounts.antt` are those of the definitions: the actions, the methods, and the answer to question 9.
 -- Assumes nothing.
 use Prim.Native.Nat.{ℕ, suc, _+_, _-_, _≤_}
 use native.Mathlib.Nat.{add-zero, add-suc, zero-add, suc-add}
@@ -12,18 +12,18 @@ use lib.ListN.{length, length-map}
 use mir.Syntax.{w16}
 use mir.Val.{Fits}
 use borrow.Author.Tests.{eqb-true, le-leb}
-use Rattle.hgn.specs.Lists.{keep, upTo, parts}
-use Rattle.hgn.specs.Rows.{Row, row, has, valuesOf}
-use Rattle.hgn.specs.Meaning.{Node, Domain, nodeOf, nodesOf, methodOf, opens, headed, domainOf, lastOf}
+use Rattle.hgn.specs.Lists.{filter, takeUntil, splitAtEach}
+use Rattle.hgn.specs.Rows.{Row, row, has, valuesTagged}
+use Rattle.hgn.specs.Meaning.{Node, Domain, nodeOf, nodesOf, methodOf, beginsOperator, startsWith, domainOf, lastOf}
 use Rattle.hgn.specs.Questions.{_asks_, _askedAt_, Verdict, passed, refused, firstNo}
 use Rattle.hgn.specs.Shop.{mostNodes, nodeRules, methodQuestions}
 use Rattle.hgn.specs.Tag as Tag
-use Rattle.sheet_check.specs.declared.tally.Tally.{Tally}
-use Rattle.sheet_check.specs.Tally.{nothing, withinRules, noted, closed, withAction, withMethod, withCounts, counted, countedRows, foundIn, Each, Within, Small}
+use Rattle.sheet_check.specs.declared.part_counts.PartCounts.{PartCounts}
+use Rattle.sheet_check.specs.PartCounts.{nothing, withinRules, noted, closed, withAction, withMethod, withCounts, counted, countedRows, invalidIn, Each, Within, Small}
 
 -- By the tag: one that is counted, or another, which changes nothing.
 by-tag : (P : ℕ → Type 0) → P Tag.action → P Tag.method → P Tag.node → P Tag.alternative → P Tag.after
-    → ((k : ℕ) → ((t : Tally) → counted t k ≡ t)
+    → ((k : ℕ) → ((t : PartCounts) → counted t k ≡ t)
     → eqb k Tag.action ≡ false → eqb k Tag.method ≡ false → eqb k Tag.node ≡ false → eqb k Tag.alternative ≡ false → eqb k Tag.after ≡ false → P k)
     → (k : ℕ) → P k
 unfolding counted
@@ -39,15 +39,15 @@ by-tag P action method node alternative after other k =
         go false e = f e
 
 -- To close the open method is to change nothing, or to note it.
-closed-is : (P : Tally → Type 0) (t : Tally) → P t → P (noted t) → P (closed t)
+closed-is : (P : PartCounts → Type 0) (t : PartCounts) → P t → P (noted t) → P (closed t)
 unfolding closed
-closed-is P t p q = go (t .opened && not (t .found) && not (withinRules t) && leb 1 (t .methods))
+closed-is P t p q = go (t .inside && not (t .invalid) && not (withinRules t) && leb 1 (t .methods))
   where
     go : (b : Bool) → P (cond b (noted t) t)
     go true = q
     go false = p
 
-closed-keeps : (t : Tally) → (closed t .actions ≡ t .actions) × (closed t .methods ≡ t .methods)
+closed-keeps : (t : PartCounts) → (closed t .actions ≡ t .actions) × (closed t .methods ≡ t .methods)
 unfolding noted
 closed-keeps t = closed-is (λ u. (u .actions ≡ t .actions) × (u .methods ≡ t .methods)) t (refl, refl) (refl, refl)
 
@@ -56,7 +56,7 @@ closed-keeps t = closed-is (λ u. (u .actions ≡ t .actions) × (u .methods ≡
 pub within-nothing : Within 0 nothing
 within-nothing = omega arith
 
-pub each-closed : (P : ℕ → Type 0) (t : Tally) → Each P t → Each P (closed t)
+pub each-closed : (P : ℕ → Type 0) (t : PartCounts) → Each P t → Each P (closed t)
 unfolding noted
 each-closed P t w = closed-is (Each P) t w (record {
   actions = w .actions;
@@ -66,7 +66,7 @@ each-closed P t w = closed-is (Each P) t w (record {
   afters = w .afters;
 })
 
-pub within-counted : (n : ℕ) (t : Tally) (tag : ℕ) → Within n t → Within (suc n) (counted t tag)
+pub within-counted : (n : ℕ) (t : PartCounts) (tag : ℕ) → Within n t → Within (suc n) (counted t tag)
 unfolding counted withAction withMethod withCounts
 within-counted n t tag w =
     let v = each-closed (λ k. k ≤ n) t w in
@@ -74,15 +74,15 @@ within-counted n t tag w =
     (λ k other a b c d e. rw (other t) (omega arith))
     tag
 
-pub within-small : (n : ℕ) (t : Tally) → Fits w16 (n + 1) → Within n t → Small t
+pub within-small : (n : ℕ) (t : PartCounts) → Fits w16 (n + 1) → Within n t → Small t
 within-small n t h w = omega arith
 
 -- `u` has the actions and the methods of `d` on top of those of `t`.
-abbrev Adds : Domain → Tally → Tally → Type 0
+abbrev Adds : Domain → PartCounts → PartCounts → Type 0
 Adds d t u = (u .actions ≡ t .actions + length (d .actions)) × (u .methods ≡ t .methods + length (d .methods))
 
-rows-add : (t : Tally) (rs : List Row) → Adds (domainOf rs) t (countedRows t rs)
-unfolding countedRows counted withAction withMethod withCounts domainOf keep parts headed
+rows-add : (t : PartCounts) (rs : List Row) → Adds (domainOf rs) t (countedRows t rs)
+unfolding countedRows counted withAction withMethod withCounts domainOf filter splitAtEach startsWith
 rows-add t [] = omega arith
 rows-add t (r ∷ rs) =
     let same = closed-keeps t in
@@ -118,18 +118,18 @@ unfolding lastNumber lastOf
 last-number f k n [] = refl
 last-number f k n (m ∷ ms) = last-number f (f n) m ms
 
--- The tally after the rows `b` of the open method: its nodes are counted, and the 8 and 11 rows of the last of them.
-withRows : Tally → List Row → Tally
+-- The counts after the rows `b` of the open method: its nodes are counted, and the 8 and 11 rows of the last of them.
+withRows : PartCounts → List Row → PartCounts
 withRows t b =
     withCounts t (t .nodes + length (nodesOf b))
-    (lastNumber alternativesOf (t .alternatives + length (parts (has Tag.alternative) (upTo (has Tag.node) b))) (nodesOf b))
-    (lastNumber aftersOf (t .afters + length (valuesOf Tag.after (upTo (has Tag.node) b))) (nodesOf b))
+    (lastNumber alternativesOf (t .alternatives + length (splitAtEach (has Tag.alternative) (takeUntil (has Tag.node) b))) (nodesOf b))
+    (lastNumber aftersOf (t .afters + length (valuesTagged Tag.after (takeUntil (has Tag.node) b))) (nodesOf b))
 
-rows-counted : (t : Tally) (rs : List Row) → countedRows t (upTo opens rs) ≡ withRows t (upTo opens rs)
-unfolding withRows upTo countedRows counted withCounts nodesOf nodeOf parts valuesOf lastNumber
+rows-counted : (t : PartCounts) (rs : List Row) → countedRows t (takeUntil beginsOperator rs) ≡ withRows t (takeUntil beginsOperator rs)
+unfolding withRows takeUntil countedRows counted withCounts nodesOf nodeOf splitAtEach valuesTagged lastNumber
 rows-counted t [] = simp add-zero
 rows-counted t (r ∷ rs) =
-    by-tag (λ k. let b = upTo opens (row k (r .value) ∷ rs) in countedRows t b ≡ withRows t b)
+    by-tag (λ k. let b = takeUntil beginsOperator (row k (r .value) ∷ rs) in countedRows t b ≡ withRows t b)
     (simp add-zero)
     (simp add-zero)
     (rows-counted (counted t Tag.node) rs ∙ simp (zero-add, suc-add, add-suc, length-map))
@@ -138,11 +138,11 @@ rows-counted t (r ∷ rs) =
     (λ k other a b c d e. rw (a, b) (rw (other t, c, d, e, countedRows) (rows-counted t rs)))
     (r .tag)
 
--- A method is within the tally's rules at its end exactly when it is within its node rules.
-method-counted : (t : Tally) (v : ℕ) (rs : List Row)
-    → withinRules (countedRows (withMethod t) (upTo opens rs)) ≡ nodeRules (methodOf (row Tag.method v ∷ upTo opens rs))
-unfolding withRows withinRules withMethod withCounts nodeRules methodOf nodesOf parts lastNumber lastOf
-method-counted t v rs = rw (rows-counted (withMethod t) rs) (go _ _ (nodesOf (upTo opens rs)))
+-- A method is within the counts' rules at its end exactly when it is within its node rules.
+method-counted : (t : PartCounts) (v : ℕ) (rs : List Row)
+    → withinRules (countedRows (withMethod t) (takeUntil beginsOperator rs)) ≡ nodeRules (methodOf (row Tag.method v ∷ takeUntil beginsOperator rs))
+unfolding withRows withinRules withMethod withCounts nodeRules methodOf nodesOf splitAtEach lastNumber lastOf
+method-counted t v rs = rw (rows-counted (withMethod t) rs) (go _ _ (nodesOf (takeUntil beginsOperator rs)))
   where
     go : (j k : ℕ) (ns : List Node)
         → leb 1 (0 + length ns) && leb (0 + length ns) mostNodes && eqb (lastNumber alternativesOf j ns) 1 && eqb (lastNumber aftersOf k ns) 0
@@ -150,20 +150,20 @@ method-counted t v rs = rw (rows-counted (withMethod t) rs) (go _ _ (nodesOf (up
     go j k [] = refl
     go j k (n ∷ ns) = rw (zero-add, last-number alternativesOf j n ns, last-number aftersOf k n ns)
 
--- The answer to question 9 from a tally on: at the method that it noted, else at its open method unless that is `within` its rules,
+-- The answer to question 9 from such counts on: at the method that it noted, else at its open method unless that is `within` its rules,
 -- else what the rest answers.
-answered : Tally → Bool → Verdict → Verdict
+answered : PartCounts → Bool → Verdict → Verdict
 answered t within rest =
-    cond (t .found) (refused ((9 asks false askedAt t .first) .refusal))
-    (cond (t .opened && leb 1 (t .methods)) (cond within rest (refused ((9 asks false askedAt (t .methods - 1)) .refusal))) rest)
+    cond (t .invalid) (refused ((9 asks false askedAt t .offender) .refusal))
+    (cond (t .inside && leb 1 (t .methods)) (cond within rest (refused ((9 asks false askedAt (t .methods - 1)) .refusal))) rest)
 
-closed-answered : (t : Tally) (rest : Verdict)
-    → cond (closed t .found) (refused ((9 asks false askedAt closed t .first) .refusal)) rest ≡ answered t (withinRules t) rest
+closed-answered : (t : PartCounts) (rest : Verdict)
+    → cond (closed t .invalid) (refused ((9 asks false askedAt closed t .offender) .refusal)) rest ≡ answered t (withinRules t) rest
 unfolding closed noted answered
-closed-answered t rest = go (t .opened) (t .found) (withinRules t) (leb 1 (t .methods)) refl refl refl refl
+closed-answered t rest = go (t .inside) (t .invalid) (withinRules t) (leb 1 (t .methods)) refl refl refl refl
   where
-    go : (o f w m : Bool) → t .opened ≡ o → t .found ≡ f → withinRules t ≡ w → leb 1 (t .methods) ≡ m
-        → cond (closed t .found) (refused ((9 asks false askedAt closed t .first) .refusal)) rest ≡ answered t (withinRules t) rest
+    go : (o f w m : Bool) → t .inside ≡ o → t .invalid ≡ f → withinRules t ≡ w → leb 1 (t .methods) ≡ m
+        → cond (closed t .invalid) (refused ((9 asks false askedAt closed t .offender) .refusal)) rest ≡ answered t (withinRules t) rest
     go false f w m p q r s = rw p
     go true true w m p q r s = rw (p, q)
     go true false true true p q r s = rw (r, s, p, q)
@@ -172,17 +172,17 @@ closed-answered t rest = go (t .opened) (t .found) (withinRules t) (leb 1 (t .me
     go true false false false p q r s = rw (r, s, p, q)
 
 -- The open method's rows end at the next action or method; then come the methods of the other rows.
-rules-from : (t : Tally) (rs : List Row)
-    → foundIn (closed (countedRows t rs))
-    ≡ answered t (withinRules (countedRows t (upTo opens rs))) (firstNo (methodQuestions (t .methods) (domainOf rs .methods)))
-unfolding foundIn answered countedRows counted withAction withMethod withCounts upTo domainOf keep parts headed methodQuestions firstNo
+rules-from : (t : PartCounts) (rs : List Row)
+    → invalidIn (closed (countedRows t rs))
+    ≡ answered t (withinRules (countedRows t (takeUntil beginsOperator rs))) (firstNo (methodQuestions (t .methods) (domainOf rs .methods)))
+unfolding invalidIn answered countedRows counted withAction withMethod withCounts takeUntil domainOf filter splitAtEach startsWith methodQuestions firstNo
 rules-from t [] = closed-answered t passed
 rules-from t (r ∷ rs) =
     by-tag
     (λ k.
     let rows = row k (r .value) ∷ rs in
-    foundIn (closed (countedRows (counted t k) rs))
-    ≡ answered t (withinRules (countedRows t (upTo opens rows))) (firstNo (methodQuestions (t .methods) (domainOf rows .methods))))
+    invalidIn (closed (countedRows (counted t k) rs))
+    ≡ answered t (withinRules (countedRows t (takeUntil beginsOperator rows))) (firstNo (methodQuestions (t .methods) (domainOf rows .methods))))
     (rules-from (withAction (closed t)) rs ∙ rw (closed-keeps t .1) (closed-answered t _))
     (rules-from (withMethod (closed t)) rs
     ∙ rw (method-counted (closed t) (r .value) rs, closed-keeps t .1, le-leb 1 (suc (t .methods)) (omega arith), sub-one (suc (t .methods)))
@@ -193,7 +193,7 @@ rules-from t (r ∷ rs) =
     (λ k other a b c d e. rw (other t, a, b) (rw (other t, countedRows) (rules-from t rs)))
     (r .tag)
 
--- Question 9: the tally finds the first method that is not within its node rules.
-pub rules-counted : (rows : List Row) → foundIn (closed (countedRows nothing rows)) ≡ firstNo (methodQuestions 0 (domainOf rows .methods))
+-- Question 9: the counts find the first method that is not within its node rules.
+pub rules-counted : (rows : List Row) → invalidIn (closed (countedRows nothing rows)) ≡ firstNo (methodQuestions 0 (domainOf rows .methods))
 unfolding answered
 rules-counted rows = rules-from nothing rows

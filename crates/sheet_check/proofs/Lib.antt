@@ -1,7 +1,7 @@
 -- Laws of the definitions in the shape that the code asks for.
 pub mod Counts
 pub mod Lookup
-pub mod GoneOn
+pub mod GroupCounts
 pub mod Scans
 pub mod Checks
 pub mod CallDemands

@@ -3,7 +3,7 @@ use Prim.Native.Nat.{ℕ}
 use mathlib.Core.Path.{_≡_}
 use mathlib.Core.Bool.{Bool}
 use mathlib.Core.List.{List, _++_}
-use Rattle.hgn.specs.Questions.{firstNo, told}
+use Rattle.hgn.specs.Questions.{firstNo, answered}
 use Rattle.hgn.specs.Shop as Shop
 use Rattle.hgn.specs.Shop.{shopRows, shopEndQuestions}
 use Rattle.hgn.specs.Order as Order
@@ -27,9 +27,9 @@ OrderInRange ofShop sizes r = (shop sheet : List ℕ) → ShopSized shop ofShop 
 -- Of any shop sheet of these sizes of which the rows came to this scan: the first no from its rows on.
 abbrev pub ShopEnds : Scan → ShopSizes → Refusal → Type 0
 ShopEnds s sizes r = (shop : List ℕ) → Scanned Of.Shop (Shop.atomCount shop) (shopRows shop) s → ShopSized shop sizes
-    → refusalOf r ≡ told (firstNo (questionsOf Of.Shop (Shop.atomCount shop) (shopRows shop) ++ shopEndQuestions shop))
+    → refusalOf r ≡ answered (firstNo (questionsOf Of.Shop (Shop.atomCount shop) (shopRows shop) ++ shopEndQuestions shop))
 
 -- Of any order sheet of these sizes of which the rows came to this scan: the first no from its rows on.
 abbrev pub OrderEnds : Scan → OrderSizes → Refusal → Type 0
 OrderEnds s sizes r = (sheet : List ℕ) → Scanned Of.Order (Order.atomCount sheet) (orderRows sheet) s → OrderSized sheet sizes
-    → refusalOf r ≡ told (firstNo (questionsOf Of.Order (Order.atomCount sheet) (orderRows sheet) ++ orderEndQuestions sheet))
+    → refusalOf r ≡ answered (firstNo (questionsOf Of.Order (Order.atomCount sheet) (orderRows sheet) ++ orderEndQuestions sheet))

@@ -1,5 +1,5 @@
 -- How the code's answers stand for the definitions of `hgn`, and what is promised of them.
-pub mod Tally
+pub mod PartCounts
 pub mod Scanned
 pub mod Sizes
 pub mod Answers

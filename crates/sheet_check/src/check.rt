@@ -10,7 +10,7 @@ ghost use mathlib.Core.Path.{_≡_};
 ghost use Rattle.hgn.specs.Shop.{checkShop};
 ghost use Rattle.hgn.specs.Order.{orderQuestions, checkOrder};
 ghost use Rattle.hgn.specs.Trace.{traceQuestions, checkTrace};
-ghost use Rattle.hgn.specs.Questions.{firstNo, told};
+ghost use Rattle.hgn.specs.Questions.{firstNo, answered};
 ghost use Rattle.sheet_rows.specs.Refusals.{refusalOf};
 ghost use Rattle.sheet_check.specs.Answers.{ShopInRange, OrderInRange, ShopEnds, OrderEnds};
 
@@ -27,7 +27,7 @@ impl Shop {
     pub const MOST_METHODS: u16 = 255;
 
     // Actions and methods together.
-    pub const MOST_BLOCKS: usize = Shop::MOST_ACTIONS as usize + Shop::MOST_METHODS as usize;
+    pub const MOST_OPERATORS: usize = Shop::MOST_ACTIONS as usize + Shop::MOST_METHODS as usize;
 }
 
 // What an order sheet may hold.
@@ -89,13 +89,13 @@ fn shop_end(scan: Scan, sizes: ShopSizes) -> Refusal
         let position = scan.position;
         let context = position.context;
         if context.may_end() {
-            let tally = scan.tally;
-            if tally.actions == sizes.actions {
-                if tally.methods == sizes.methods {
-                    let last = tally.closed();
-                    if last.found {
+            let counts = scan.counts;
+            if counts.actions == sizes.actions {
+                if counts.methods == sizes.methods {
+                    let last = counts.closed();
+                    if last.invalid {
                         let unplaced = Refusal::by(9);
-                        return unplaced.at(last.first);
+                        return unplaced.at(last.offender);
                     }
                     return Refusal::none();
                 }
@@ -129,7 +129,7 @@ fn order_end(scan: Scan, sizes: OrderSizes) -> Refusal
 
 // Questions 1 to 9.
 pub fn check_shop(shop: &[u16]) -> Refusal
-    ensures { λ r. ⌜ refusalOf r ≡ told (checkShop (now (shop .entry))) ⌝ }
+    ensures { λ r. ⌜ refusalOf r ≡ answered (checkShop (now (shop .entry))) ⌝ }
 {
     if shop.len() < Shop::SIZES {
         return Refusal::by(1);
@@ -148,7 +148,7 @@ pub fn check_shop(shop: &[u16]) -> Refusal
 
 // Questions 11 to 18, of an order sheet; the shop sheet is asked before.
 fn ask_order(shop: &[u16], order: &[u16]) -> Refusal
-    ensures { λ r. ⌜ refusalOf r ≡ told (firstNo (orderQuestions (now (shop .entry)) (now (order .entry)))) ⌝ }
+    ensures { λ r. ⌜ refusalOf r ≡ answered (firstNo (orderQuestions (now (shop .entry)) (now (order .entry)))) ⌝ }
 {
     if order.len() < Order::SIZES {
         return Refusal::by(11);
@@ -167,7 +167,7 @@ fn ask_order(shop: &[u16], order: &[u16]) -> Refusal
 
 // Questions 21 to 23.
 fn ask_trace(trace: &[u16]) -> Refusal
-    ensures { λ r. ⌜ refusalOf r ≡ told (firstNo (traceQuestions (now (trace .entry)))) ⌝ }
+    ensures { λ r. ⌜ refusalOf r ≡ answered (firstNo (traceQuestions (now (trace .entry)))) ⌝ }
 {
     if trace.len() < Trace::SIZES {
         return Refusal::by(21);
@@ -185,7 +185,7 @@ fn ask_trace(trace: &[u16]) -> Refusal
 
 // The shop sheet, then the order sheet.
 pub fn check_order(shop: &[u16], order: &[u16]) -> Refusal
-    ensures { λ r. ⌜ refusalOf r ≡ told (checkOrder (now (shop .entry)) (now (order .entry))) ⌝ }
+    ensures { λ r. ⌜ refusalOf r ≡ answered (checkOrder (now (shop .entry)) (now (order .entry))) ⌝ }
 {
     let first = check_shop(shop);
     if first.number == 0 {
@@ -196,7 +196,7 @@ pub fn check_order(shop: &[u16], order: &[u16]) -> Refusal
 
 // The shop sheet, the order sheet, then the trace.
 pub fn check_trace(shop: &[u16], order: &[u16], trace: &[u16]) -> Refusal
-    ensures { λ r. ⌜ refusalOf r ≡ told (checkTrace (now (shop .entry)) (now (order .entry)) (now (trace .entry))) ⌝ }
+    ensures { λ r. ⌜ refusalOf r ≡ answered (checkTrace (now (shop .entry)) (now (order .entry)) (now (trace .entry))) ⌝ }
 {
     let first = check_order(shop, order);
     if first.number == 0 {

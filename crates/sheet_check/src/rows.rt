@@ -1,5 +1,5 @@
 // The rows of a sheet, read in one pass. Document 01, "The three sheets".
-use crate::tally::Tally;
+use crate::part_counts::PartCounts;
 use sheet_rows::position::Position;
 use sheet_rows::position::Reading;
 use sheet_rows::position::Sheet;
@@ -8,7 +8,7 @@ ghost use mathlib.Core.Path.{_≡_};
 ghost use mathlib.Core.Bool.{false};
 ghost use Prim.Native.Nat.{_+_, _<_, _≤_};
 ghost use lib.ListN.{length, getD};
-ghost use Rattle.hgn.specs.Questions.{_asks_, _askedAt_, passed, told};
+ghost use Rattle.hgn.specs.Questions.{_asks_, _askedAt_, passed, answered};
 ghost use Rattle.hgn.specs.Rows.{mostRows, rowsOf};
 ghost use Rattle.sheet_rows.specs.Refusals.{refusalOf};
 ghost use Rattle.sheet_check.specs.Scanned.{Scanned};
@@ -27,24 +27,24 @@ pub struct Layout {
 pub struct Scan {
     pub refusal: Refusal,
     pub position: Position,
-    pub tally: Tally,
+    pub counts: PartCounts,
 }
 
 impl Scan {
     // Every row passed.
-    fn passed(position: Position, tally: Tally) -> Scan
-        ensures { λ r. ⌜ (refusalOf (r .refusal) ≡ told passed) × (r .position ≡ position) × (r .tally ≡ tally) ⌝ }
+    fn passed(position: Position, counts: PartCounts) -> Scan
+        ensures { λ r. ⌜ (refusalOf (r .refusal) ≡ answered passed) × (r .position ≡ position) × (r .counts ≡ counts) ⌝ }
     {
         let refusal = Refusal::none();
         Scan {
             refusal: refusal,
             position: position,
-            tally: tally,
+            counts: counts,
         }
     }
 
     // The question of this number failed at a row.
-    fn refused(number: u16, row: Row, position: Position, tally: Tally) -> Scan
+    fn refused(number: u16, row: Row, position: Position, counts: PartCounts) -> Scan
         ensures { λ r. ⌜ refusalOf (r .refusal) ≡ (number asks false askedAt row .0) .refusal ⌝ }
     {
         let unplaced = Refusal::by(number);
@@ -52,7 +52,7 @@ impl Scan {
         Scan {
             refusal: refusal,
             position: position,
-            tally: tally,
+            counts: counts,
         }
     }
 }
@@ -94,7 +94,7 @@ impl Layout {
     {
         let rows = self.rows;
         let mut position = Position::opening();
-        let mut tally = Tally::nothing();
+        let mut counts = PartCounts::nothing();
         let mut i = 0;
         while i < rows {
             let row = Row(i as u16);
@@ -102,21 +102,21 @@ impl Layout {
             let tag = self.tag(words, row);
             let value = self.value(words, row);
             if position.goes_on(atoms, tag, value) {
-                tally = tally.gone_on(tag);
+                counts = counts.counted_in_group(tag);
                 position = position.above(value);
             } else {
-                tally = tally.counted(tag);
+                counts = counts.counted(tag);
                 let reading = position.read(sheet, atoms, tag, value);
                 match reading {
                     Reading::Next(next) => {
                         position = next;
                     }
                     Reading::Refused(number) => {
-                        return Scan::refused(number, row, position, tally);
+                        return Scan::refused(number, row, position, counts);
                     }
                 }
             }
         }
-        Scan::passed(position, tally)
+        Scan::passed(position, counts)
     }
 }

@@ -11,13 +11,13 @@ use lib.Dec.{eqb}
 use lib.ListN.{length, getD, take, drop, set, length-set, length-drop, drop-of-length-le, take-append-drop}
 use lib.Seq.{take-suc, drop-cons, take-at, drop-at, set-at, set-split, length-take-le, take-take, take-append-add, take-set-le, take-set-lt, drop-set-lt, drop-set-add}
 use borrow.Author.Tests.{eq-eqb, ne-eqb}
-use Rattle.hgn.specs.Lists.{among, any, upTo}
+use Rattle.hgn.specs.Lists.{elem, any, takeUntil}
 use Rattle.hgn.specs.Rows.{Row, row, rowsOf, mostRows}
-use Rattle.hgn.specs.Meaning.{opens}
+use Rattle.hgn.specs.Meaning.{beginsOperator}
 use Rattle.hgn.specs.Tag as Tag
-use Rattle.sheet_index.specs.Index.{marks, starts, ends, startsIn, Indexable, Filled}
+use Rattle.sheet_index.specs.Index.{beginsSpan, starts, ends, startsIn, Indexable, Filled}
 use Rattle.sheet_check.specs.declared.rows.Layout.{Layout}
-use Rattle.sheet_rows.proofs.Laws.{among-one}
+use Rattle.sheet_rows.proofs.Laws.{elem-one}
 use Rattle.sheet_check.proofs.Lookup.{rows-length, rows-at}
 use Rattle.sheet_index.proofs.Spans.{by-test, starts-count, ends-length}
 
@@ -38,38 +38,38 @@ fewer-starts zero i j rs = omega (arith, starts-count rs i, starts-count rs j)
 fewer-starts (suc k) i j [] = omega arith
 fewer-starts (suc k) i j (r ∷ rs) =
     let ih = fewer-starts k (suc i) j rs in
-    by-test (opens r) (λ o. rw o (omega arith)) (λ o. rw o ih)
+    by-test (beginsOperator r) (λ o. rw o (omega arith)) (λ o. rw o ih)
 
 -- From row `i` on the rows `rs`, `n` of them, are filled in over `ends₀` and `starts₀`: `end` is the next row that begins an action,
--- a method or a node, and `block` actions and methods are left.
-pub record Filling (n : ℕ) (rs : List Row) (ends₀ starts₀ : List ℕ) (blocks : ℕ) (ends′ starts′ : List ℕ) (end block i : ℕ) : Type 0 where
+-- a method or a node, and `operator` actions and methods are left.
+pub record Filling (n : ℕ) (rs : List Row) (ends₀ starts₀ : List ℕ) (operators : ℕ) (ends′ starts′ : List ℕ) (end operator i : ℕ) : Type 0 where
   pub inside : i ≤ n
   pub end-inside : end ≤ n
-  pub end-is : end ≡ i + length (upTo marks (drop i rs))
-  pub left : block + length (starts i (drop i rs)) ≡ blocks
+  pub end-is : end ≡ i + length (takeUntil beginsSpan (drop i rs))
+  pub left : operator + length (starts i (drop i rs)) ≡ operators
   pub ends-are : ends′ ≡ take i ends₀ ++ (ends i (drop i rs) ++ drop n ends₀)
-  pub starts-are : starts′ ≡ take block starts₀ ++ (starts i (drop i rs) ++ drop blocks starts₀)
+  pub starts-are : starts′ ≡ take operator starts₀ ++ (starts i (drop i rs) ++ drop operators starts₀)
   pub ends-length : length ends′ ≡ length ends₀
   pub starts-length : length starts′ ≡ length starts₀
 
 -- Room for the ends and room for the starts, each by itself.
-record Rooms (words : List ℕ) (l : Layout) (ends₀ starts₁ : List ℕ) (blocks : ℕ) : Type 0 where
+record Rooms (words : List ℕ) (l : Layout) (ends₀ starts₁ : List ℕ) (operators : ℕ) : Type 0 where
   fits : l .sizes + (l .rows + l .rows) ≤ length words
   ends-fit : l .rows ≤ length ends₀
-  starts-fit : blocks < length starts₁
-  counted : blocks ≡ length (starts 0 (rowsOf (l .sizes) (l .rows) words))
+  starts-fit : operators < length starts₁
+  counted : operators ≡ length (starts 0 (rowsOf (l .sizes) (l .rows) words))
 
-module _ {words : List ℕ} {l : Layout} {ends₀ starts₁ : List ℕ} {blocks : ℕ} (q : Rooms words l ends₀ starts₁ blocks) where
+module _ {words : List ℕ} {l : Layout} {ends₀ starts₁ : List ℕ} {operators : ℕ} (q : Rooms words l ends₀ starts₁ operators) where
   abbrev rs : List Row
   rs = rowsOf (l .sizes) (l .rows) words
 
   -- The end mark is set first.
   abbrev starts₀ : List ℕ
-  starts₀ = set starts₁ blocks (l .rows)
+  starts₀ = set starts₁ operators (l .rows)
 
   -- At first nothing is filled in, at last everything.
-  filled-none : Filling (l .rows) rs ends₀ starts₀ blocks ends₀ starts₀ (l .rows) blocks (l .rows)
-  unfolding starts ends upTo
+  filled-none : Filling (l .rows) rs ends₀ starts₀ operators ends₀ starts₀ (l .rows) operators (l .rows)
+  unfolding starts ends takeUntil
   filled-none =
       let e : drop (l .rows) rs ≡ [] = drop-of-length-le rs {i = l .rows} (omega (arith, rows-length (l .sizes) (l .rows) words (q .fits))) in
       record {
@@ -78,25 +78,25 @@ module _ {words : List ℕ} {l : Layout} {ends₀ starts₁ : List ℕ} {blocks 
         end-is = rw (e, add-zero);
         left = rw (e, add-zero);
         ends-are = rw e (sym (take-append-drop (l .rows) ends₀));
-        starts-are = rw e (sym (take-append-drop blocks starts₀));
+        starts-are = rw e (sym (take-append-drop operators starts₀));
         ends-length = refl;
         starts-length = refl;
       }
 
-  module _ {ends′ starts′ : List ℕ} {end block i : ℕ} (f : Filling (l .rows) rs ends₀ starts₀ blocks ends′ starts′ end block i) where
+  module _ {ends′ starts′ : List ℕ} {end operator i : ℕ} (f : Filling (l .rows) rs ends₀ starts₀ operators ends′ starts′ end operator i) where
     starts-same : length starts′ ≡ length starts₁
-    starts-same = f .starts-length ∙ length-set starts₁ blocks (l .rows)
+    starts-same = f .starts-length ∙ length-set starts₁ operators (l .rows)
 
-    filled-all : i ≤ 0 → (ends′ ≡ ends 0 rs ++ drop (l .rows) ends₀) × (starts′ ≡ starts 0 rs ++ (l .rows ∷ drop (suc blocks) starts₁))
+    filled-all : i ≤ 0 → (ends′ ≡ ends 0 rs ++ drop (l .rows) ends₀) × (starts′ ≡ starts 0 rs ++ (l .rows ∷ drop (suc operators) starts₁))
     filled-all h =
         let z : i ≡ 0 = omega arith in
         let g = rw z at f in
-        let b : block ≡ 0 = omega (arith, g .left) in
-        (g .ends-are, (rw b at (g .starts-are)) ∙ ap (λ r. starts 0 rs ++ r) (end-mark starts₁ blocks (l .rows) (q .starts-fit)))
+        let b : operator ≡ 0 = omega (arith, g .left) in
+        (g .ends-are, (rw b at (g .starts-are)) ∙ ap (λ r. starts 0 rs ++ r) (end-mark starts₁ operators (l .rows) (q .starts-fit)))
 
     -- The row before, with the tag `t`.
     module _ {k t : ℕ} (one : i ≡ suc k) (is : t ≡ getD words (l .sizes + k) 0) where
-      g : Filling (l .rows) rs ends₀ starts₀ blocks ends′ starts′ end block (suc k)
+      g : Filling (l .rows) rs ends₀ starts₀ operators ends′ starts′ end operator (suc k)
       g = rw one at f
 
       v : ℕ
@@ -108,9 +108,9 @@ module _ {words : List ℕ} {l : Layout} {ends₀ starts₁ : List ℕ} {blocks 
           drop-cons rs k (row 0 0) (omega (arith, g .inside, rows-length (l .sizes) (l .rows) words (q .fits)))
           ∙ ap (λ r. r ∷ drop (suc k) rs) (rows-at (l .sizes) (l .rows) words (q .fits) k (g .inside) ∙ ap (λ t. row t v) (sym is))
 
-      opens-is : {b : Bool} → among t (Tag.action ∷ Tag.method ∷ []) ≡ b → opens (row t v) ≡ b
-      unfolding among any
-      opens-is e = ap (λ b. eqb t Tag.action || b) (among-one t Tag.method) ∙ e
+      begins-is : {b : Bool} → elem t (Tag.action ∷ Tag.method ∷ []) ≡ b → beginsOperator (row t v) ≡ b
+      unfolding elem any
+      begins-is e = ap (λ b. eqb t Tag.action || b) (elem-one t Tag.method) ∙ e
 
       ends-next : set ends′ k end ≡ take k ends₀ ++ (ends k (drop k rs) ++ drop (l .rows) ends₀)
       unfolding ends
@@ -120,59 +120,59 @@ module _ {words : List ℕ} {l : Layout} {ends₀ starts₁ : List ℕ} {blocks 
           ∙ ap (λ l′. take k ends₀ ++ (ends k l′ ++ drop (l .rows) ends₀)) (sym rest)
 
       -- It begins an action or a method: one of those that are left.
-      module _ (o : among t (Tag.action ∷ Tag.method ∷ []) ≡ true) where
-        block-left : 1 ≤ block
+      module _ (o : elem t (Tag.action ∷ Tag.method ∷ []) ≡ true) where
+        operator-left : 1 ≤ operator
         unfolding starts
-        block-left = let few = rw (rest, opens-is o) at (fewer-starts k 0 k rs) in omega (arith, g .left, q .counted)
+        operator-left = let few = rw (rest, begins-is o) at (fewer-starts k 0 k rs) in omega (arith, g .left, q .counted)
 
-        filled-open : Filling (l .rows) rs ends₀ starts₀ blocks (set ends′ k end) (set starts′ (block - 1) k) k (block - 1) k
-        unfolding starts upTo
+        filled-open : Filling (l .rows) rs ends₀ starts₀ operators (set ends′ k end) (set starts′ (operator - 1) k) k (operator - 1) k
+        unfolding starts takeUntil
         filled-open =
-            let b : block ≡ suc (block - 1) = omega (arith, block-left) in
+            let b : operator ≡ suc (operator - 1) = omega (arith, operator-left) in
             record {
               inside = omega (arith, g .inside);
               end-inside = omega (arith, g .inside);
-              end-is = rw (rest, opens-is o, add-zero);
-              left = rw (rest, opens-is o) (omega (arith, g .left));
+              end-is = rw (rest, begins-is o, add-zero);
+              left = rw (rest, begins-is o) (omega (arith, g .left));
               ends-are = ends-next;
               starts-are =
-                  rw (rest, opens-is o)
-                  (fill-in starts₀ starts′ _ (block - 1) k (omega (arith, g .left, length-set starts₁ blocks (l .rows), q .starts-fit))
-                  (g .starts-are ∙ ap (λ m. take m starts₀ ++ (starts (suc k) (drop (suc k) rs) ++ drop blocks starts₀)) b));
+                  rw (rest, begins-is o)
+                  (fill-in starts₀ starts′ _ (operator - 1) k (omega (arith, g .left, length-set starts₁ operators (l .rows), q .starts-fit))
+                  (g .starts-are ∙ ap (λ m. take m starts₀ ++ (starts (suc k) (drop (suc k) rs) ++ drop operators starts₀)) b));
               ends-length = length-set ends′ k end ∙ g .ends-length;
-              starts-length = length-set starts′ (block - 1) k ∙ g .starts-length;
+              starts-length = length-set starts′ (operator - 1) k ∙ g .starts-length;
             }
 
       -- It begins a node, or nothing.
-      module _ (o : among t (Tag.action ∷ Tag.method ∷ []) ≡ false) where
-        filled-same : (end′ : ℕ) → end′ ≤ l .rows → end′ ≡ k + length (upTo marks (drop k rs))
-            → Filling (l .rows) rs ends₀ starts₀ blocks (set ends′ k end) starts′ end′ block k
+      module _ (o : elem t (Tag.action ∷ Tag.method ∷ []) ≡ false) where
+        filled-same : (end′ : ℕ) → end′ ≤ l .rows → end′ ≡ k + length (takeUntil beginsSpan (drop k rs))
+            → Filling (l .rows) rs ends₀ starts₀ operators (set ends′ k end) starts′ end′ operator k
         unfolding starts
         filled-same end′ h e = record {
           inside = omega (arith, g .inside);
           end-inside = h;
           end-is = e;
-          left = rw (rest, opens-is o) (g .left);
+          left = rw (rest, begins-is o) (g .left);
           ends-are = ends-next;
-          starts-are = rw (rest, opens-is o) (g .starts-are);
+          starts-are = rw (rest, begins-is o) (g .starts-are);
           ends-length = length-set ends′ k end ∙ g .ends-length;
           starts-length = g .starts-length;
         }
 
-        filled-node : t ≡ Tag.node → Filling (l .rows) rs ends₀ starts₀ blocks (set ends′ k end) starts′ k block k
-        unfolding upTo
-        filled-node e = filled-same k (omega (arith, g .inside)) (rw (rest, opens-is o, eq-eqb t Tag.node e, add-zero))
+        filled-node : t ≡ Tag.node → Filling (l .rows) rs ends₀ starts₀ operators (set ends′ k end) starts′ k operator k
+        unfolding takeUntil
+        filled-node e = filled-same k (omega (arith, g .inside)) (rw (rest, begins-is o, eq-eqb t Tag.node e, add-zero))
 
-        filled-other : t ≢ Tag.node → Filling (l .rows) rs ends₀ starts₀ blocks (set ends′ k end) starts′ end block k
-        unfolding upTo
-        filled-other e = filled-same end (g .end-inside) (rw (rest, opens-is o, ne-eqb t Tag.node e) (omega (arith, g .end-is)))
+        filled-other : t ≢ Tag.node → Filling (l .rows) rs ends₀ starts₀ operators (set ends′ k end) starts′ end operator k
+        unfolding takeUntil
+        filled-other e = filled-same end (g .end-inside) (rw (rest, begins-is o, ne-eqb t Tag.node e) (omega (arith, g .end-is)))
 
 -- The filling of one table, whose first part is the ends and whose second the starts, is that of two tables.
-module _ {words : List ℕ} {l : Layout} {table₁ : List ℕ} {blocks : ℕ} (q : Indexable words l table₁ blocks) where
+module _ {words : List ℕ} {l : Layout} {table₁ : List ℕ} {operators : ℕ} (q : Indexable words l table₁ operators) where
   abbrev rows : List Row
   rows = rowsOf (l .sizes) (l .rows) words
 
-  rooms : Rooms words l (take mostRows table₁) (startsIn table₁) blocks
+  rooms : Rooms words l (take mostRows table₁) (startsIn table₁) operators
   rooms = record {
     fits = q .fits;
     ends-fit = omega (arith, q .few, q .room, length-take-le mostRows table₁ (omega (arith, q .room)));
@@ -180,35 +180,35 @@ module _ {words : List ℕ} {l : Layout} {table₁ : List ℕ} {blocks : ℕ} (q
     counted = q .counted;
   }
 
-  -- From row `i` on the table is filled in: `end` is the next row that begins a part, and `block` actions and methods are left.
-  pub record FilledFrom (table : List ℕ) (end block i : ℕ) : Type 0 where
-    pub parts : Filling (l .rows) rows (take mostRows table₁) (set (startsIn table₁) blocks (l .rows)) blocks (take mostRows table) (startsIn table) end block i
+  -- From row `i` on the table is filled in: `end` is the next row that begins a part, and `operator` actions and methods are left.
+  pub record FilledFrom (table : List ℕ) (end operator i : ℕ) : Type 0 where
+    pub parts : Filling (l .rows) rows (take mostRows table₁) (set (startsIn table₁) operators (l .rows)) operators (take mostRows table) (startsIn table) end operator i
     pub size : length table ≡ length table₁
 
   -- The end mark is set first.
-  pub from-none : FilledFrom (set table₁ (mostRows + blocks) (l .rows)) (l .rows) blocks (l .rows)
+  pub from-none : FilledFrom (set table₁ (mostRows + operators) (l .rows)) (l .rows) operators (l .rows)
   from-none = record {
     parts =
-        subst (λ (e : List ℕ). Filling (l .rows) rows (take mostRows table₁) (set (startsIn table₁) blocks (l .rows)) blocks e
-        (startsIn (set table₁ (mostRows + blocks) (l .rows))) (l .rows) blocks (l .rows))
-        (sym (take-set-le mostRows table₁ (mostRows + blocks) (l .rows) (omega arith)))
-        (subst (λ (e : List ℕ). Filling (l .rows) rows (take mostRows table₁) (set (startsIn table₁) blocks (l .rows)) blocks (take mostRows table₁) e (l .rows) blocks (l .rows))
-        (sym (drop-set-add mostRows table₁ blocks (l .rows))) (filled-none rooms));
-    size = length-set table₁ (mostRows + blocks) (l .rows);
+        subst (λ (e : List ℕ). Filling (l .rows) rows (take mostRows table₁) (set (startsIn table₁) operators (l .rows)) operators e
+        (startsIn (set table₁ (mostRows + operators) (l .rows))) (l .rows) operators (l .rows))
+        (sym (take-set-le mostRows table₁ (mostRows + operators) (l .rows) (omega arith)))
+        (subst (λ (e : List ℕ). Filling (l .rows) rows (take mostRows table₁) (set (startsIn table₁) operators (l .rows)) operators (take mostRows table₁) e (l .rows) operators (l .rows))
+        (sym (drop-set-add mostRows table₁ operators (l .rows))) (filled-none rooms));
+    size = length-set table₁ (mostRows + operators) (l .rows);
   }
 
-  module _ {table : List ℕ} {end block i : ℕ} (f : FilledFrom table end block i) where
+  module _ {table : List ℕ} {end operator i : ℕ} (f : FilledFrom table end operator i) where
     pub within : (i ≤ l .rows) × (end ≤ l .rows)
     within = (f .parts .inside, f .parts .end-inside)
 
     -- The words that the next row writes stand in the table.
-    pub room-is : mostRows + blocks < length table
+    pub room-is : mostRows + operators < length table
     room-is = omega (arith, f .size, q .room)
 
-    pub blocks-left : block ≤ blocks
-    blocks-left = omega (arith, f .parts .left)
+    pub operators-left : operator ≤ operators
+    operators-left = omega (arith, f .parts .left)
 
-    pub from-all : i ≤ 0 → Filled words l blocks table₁ table
+    pub from-all : i ≤ 0 → Filled words l operators table₁ table
     from-all h =
         let a = filled-all rooms (f .parts) h in
         let long = rows-length (l .sizes) (l .rows) words (q .fits) in
@@ -219,9 +219,9 @@ module _ {words : List ℕ} {l : Layout} {table₁ : List ℕ} {blocks : ℕ} (q
               ∙ ap (take (l .rows)) (a .0)
               ∙ take-at (ends 0 rows) (drop (l .rows) (take mostRows table₁)) (l .rows) (ends-length rows 0 ∙ long);
           starts-are =
-              ap (take (suc blocks)) (a .1)
-              ∙ ap (λ (k : ℕ). take k (starts 0 rows ++ (l .rows ∷ drop (suc blocks) (startsIn table₁)))) {x = suc blocks} {y = length (starts 0 rows) + 1} (omega (arith, q .counted))
-              ∙ take-append-add (starts 0 rows) (l .rows ∷ drop (suc blocks) (startsIn table₁)) 1;
+              ap (take (suc operators)) (a .1)
+              ∙ ap (λ (k : ℕ). take k (starts 0 rows ++ (l .rows ∷ drop (suc operators) (startsIn table₁)))) {x = suc operators} {y = length (starts 0 rows) + 1} (omega (arith, q .counted))
+              ∙ take-append-add (starts 0 rows) (l .rows ∷ drop (suc operators) (startsIn table₁)) 1;
         }
 
     -- The row before, with the tag `t`.
@@ -235,21 +235,21 @@ module _ {words : List ℕ} {l : Layout} {table₁ : List ℕ} {blocks : ℕ} (q
       starts-kept : startsIn (set table k end) ≡ startsIn table
       starts-kept = drop-set-lt mostRows table k end few
 
-      module _ (o : among t (Tag.action ∷ Tag.method ∷ []) ≡ true) where
-        pub open-left : 1 ≤ block
-        open-left = block-left rooms (f .parts) one is o
+      module _ (o : elem t (Tag.action ∷ Tag.method ∷ []) ≡ true) where
+        pub open-left : 1 ≤ operator
+        open-left = operator-left rooms (f .parts) one is o
 
-        pub from-open : FilledFrom (set (set table k end) (mostRows + (block - 1)) k) k (block - 1) k
+        pub from-open : FilledFrom (set (set table k end) (mostRows + (operator - 1)) k) k (operator - 1) k
         from-open = record {
           parts =
-              rw (take-set-le mostRows (set table k end) (mostRows + (block - 1)) k (omega arith), drop-set-add mostRows (set table k end) (block - 1) k, ends-set, starts-kept)
+              rw (take-set-le mostRows (set table k end) (mostRows + (operator - 1)) k (omega arith), drop-set-add mostRows (set table k end) (operator - 1) k, ends-set, starts-kept)
               (filled-open rooms (f .parts) one is o);
-          size = length-set (set table k end) (mostRows + (block - 1)) k ∙ length-set table k end ∙ f .size;
+          size = length-set (set table k end) (mostRows + (operator - 1)) k ∙ length-set table k end ∙ f .size;
         }
 
-      module _ (o : among t (Tag.action ∷ Tag.method ∷ []) ≡ false) where
-        pub from-node : t ≡ Tag.node → FilledFrom (set table k end) k block k
+      module _ (o : elem t (Tag.action ∷ Tag.method ∷ []) ≡ false) where
+        pub from-node : t ≡ Tag.node → FilledFrom (set table k end) k operator k
         from-node e = record { parts = rw (ends-set, starts-kept) (filled-node rooms (f .parts) one is o e); size = length-set table k end ∙ f .size }
 
-        pub from-other : t ≢ Tag.node → FilledFrom (set table k end) end block k
+        pub from-other : t ≢ Tag.node → FilledFrom (set table k end) end operator k
         from-other e = record { parts = rw (ends-set, starts-kept) (filled-other rooms (f .parts) one is o e); size = length-set table k end ∙ f .size }

@@ -7,25 +7,25 @@ use mathlib.Core.Bool.{true, false}
 use mathlib.Core.List.{List, [], _∷_, _++_, map}
 use lib.ListN.{length, getD, length-append, length-map, List·getD-append, List·getD-map}
 use lib.Seq.{getD-append-add}
-use Rattle.hgn.specs.Lists.{any, keep, upTo, parts}
+use Rattle.hgn.specs.Lists.{any, filter, takeUntil, splitAtEach}
 use Rattle.hgn.specs.Rows.{Row, row, has, mostRows}
 use Rattle.hgn.specs.Tag as Tag
-use Rattle.hgn.specs.Meaning.{opens, headed, firstValue, literals, nodesOf, actionOf, methodOf, domainOf}
+use Rattle.hgn.specs.Meaning.{beginsOperator, startsWith, firstValue, literals, nodesOf, actionOf, methodOf, domainOf}
 use Rattle.hgn.specs.Questions.{passed}
 use Rattle.hgn.specs.Run.{noAction, noMethod}
 use Rattle.hgn.specs.Shop as Shop
 use Rattle.hgn.specs.Shop.{shopRows}
 use Rattle.hgn.specs.Order as Order
 use Rattle.hgn.specs.Order.{orderRows}
-use Rattle.hgn.proofs.Tests.{or-false}
-use Rattle.hgn.proofs.Passed.{shop-passed, order-passed}
-use Rattle.hgn.proofs.Readback.{actions-kept, methods-kept}
-use Rattle.hgn.proofs.WrittenSheets as Written
-use Rattle.hgn.proofs.WrittenSheets.{shop-parts, shop-rules, order-opens-none, order-rules}
+use Rattle.hgn.proofs.Logic.Tests.{or-false}
+use Rattle.hgn.proofs.Sheets.Passed.{shop-passed, order-passed}
+use Rattle.hgn.proofs.Sheets.Readback.{actions-kept, methods-kept}
+use Rattle.hgn.proofs.Sheets.Written as Written
+use Rattle.hgn.proofs.Sheets.Written.{shop-parts, shop-rules, order-begins-none, order-rules}
 use Rattle.sheet_rows.specs.declared.position.Sheet.the-variants as Of
 use Rattle.sheet_index.specs.Index.{starts, ends, span, Indexable, layoutOf, spanOf, tagsOf, valuesOf, spanRows}
 use Rattle.sheet_check.proofs.Lookup.{rows-length}
-use Rattle.sheet_index.proofs.Spans.{span-upto, bounds, Until, until-suc, NodesFrom, starts-count, block-span, first-node, columns-span}
+use Rattle.sheet_index.proofs.Spans.{span-take-until, bounds, Until, until-suc, NodesFrom, starts-count, operator-span, first-node, columns-span}
 
 -- What stands past the actions and the methods.
 no-action : actionOf [] ≡ noAction
@@ -33,15 +33,15 @@ unfolding actionOf firstValue literals
 no-action = refl
 
 no-method : methodOf [] ≡ noMethod
-unfolding methodOf literals nodesOf parts
+unfolding methodOf literals nodesOf splitAtEach
 no-method = refl
 
 module _ (shop : List ℕ) (e : Shop.checkShop shop ≡ passed) where
   abbrev actions : List (List Row)
-  actions = keep (headed Tag.action) (parts opens (shopRows shop))
+  actions = filter (startsWith Tag.action) (splitAtEach beginsOperator (shopRows shop))
 
   abbrev methods : List (List Row)
-  methods = keep (headed Tag.method) (parts opens (shopRows shop))
+  methods = filter (startsWith Tag.method) (splitAtEach beginsOperator (shopRows shop))
 
   shop-fits : Shop.sizeWords + (Shop.rowCount shop + Shop.rowCount shop) ≤ length shop
   shop-fits = omega (arith, shop-passed shop e .size)
@@ -63,12 +63,12 @@ module _ (shop : List ℕ) (e : Shop.checkShop shop ≡ passed) where
   shop-length = rows-length Shop.sizeWords (Shop.rowCount shop) shop shop-fits
 
   -- All actions stand before all methods.
-  pub blocks-in-order : actions ++ methods ≡ parts opens (shopRows shop)
-  blocks-in-order = rw (shop-parts shop e, actions-kept, methods-kept)
+  pub operators-in-order : actions ++ methods ≡ splitAtEach beginsOperator (shopRows shop)
+  operators-in-order = rw (shop-parts shop e, actions-kept, methods-kept)
 
   -- As many starts as actions and methods.
-  pub blocks-count : length (starts 0 (shopRows shop)) ≡ Shop.actionCount shop + Shop.methodCount shop
-  blocks-count = omega (arith, starts-count (shopRows shop) 0, ap length blocks-in-order, length-append actions methods, actions-length, methods-length)
+  pub operators-count : length (starts 0 (shopRows shop)) ≡ Shop.actionCount shop + Shop.methodCount shop
+  operators-count = omega (arith, starts-count (shopRows shop) 0, ap length operators-in-order, length-append actions methods, actions-length, methods-length)
 
   -- Action `k` is part `k`.
   pub action-span : (k : ℕ) → k < Shop.actionCount shop
@@ -79,8 +79,8 @@ module _ (shop : List ℕ) (e : Shop.checkShop shop ≡ passed) where
       ∙ List·getD-map actionOf actions k []
       ∙ ap actionOf
       (sym (List·getD-append actions methods [] k (omega (arith, actions-length)))
-      ∙ ap (λ l. getD l k []) blocks-in-order
-      ∙ block-span (shopRows shop) k (omega (arith, blocks-count)))
+      ∙ ap (λ l. getD l k []) operators-in-order
+      ∙ operator-span (shopRows shop) k (omega (arith, operators-count)))
 
   -- Method `m` comes that many parts after the actions.
   pub method-span : (m : ℕ) → m < Shop.methodCount shop →
@@ -93,14 +93,14 @@ module _ (shop : List ℕ) (e : Shop.checkShop shop ≡ passed) where
       ∙ ap methodOf
       (sym (getD-append-add actions methods m [])
       ∙ ap (λ k. getD (actions ++ methods) (k + m) []) actions-length
-      ∙ ap (λ l. getD l (Shop.actionCount shop + m) []) blocks-in-order
-      ∙ block-span (shopRows shop) (Shop.actionCount shop + m) (omega (arith, blocks-count)))
+      ∙ ap (λ l. getD l (Shop.actionCount shop + m) []) operators-in-order
+      ∙ operator-span (shopRows shop) (Shop.actionCount shop + m) (omega (arith, operators-count)))
 
   -- A shop sheet that passed can be indexed.
   pub shop-indexable : {table : List ℕ} → mostRows + (Shop.actionCount shop + Shop.methodCount shop) < length table
       → Indexable shop (layoutOf Of.Shop shop) table (Shop.actionCount shop + Shop.methodCount shop)
   unfolding shopRows
-  shop-indexable r = record { fits = shop-fits; few = shop-few; room = r; counted = sym blocks-count }
+  shop-indexable r = record { fits = shop-fits; few = shop-few; room = r; counted = sym operators-count }
 
   -- The tags and the values of a span are its rows.
   pub shop-columns : (order : List ℕ) (from to : ℕ) → from ≤ to → to ≤ Shop.rowCount shop →
@@ -109,11 +109,11 @@ module _ (shop : List ℕ) (e : Shop.checkShop shop ≡ passed) where
   shop-columns order from to f t = columns-span shop (layoutOf Of.Shop shop) from to f t shop-fits
 
 -- Rows that begin no action and no method.
-none-open : (rows : List Row) (i : ℕ) → any opens rows ≡ false → (starts i rows ≡ []) × (upTo opens rows ≡ rows)
-unfolding any starts upTo
+none-open : (rows : List Row) (i : ℕ) → any beginsOperator rows ≡ false → (starts i rows ≡ []) × (takeUntil beginsOperator rows ≡ rows)
+unfolding any starts takeUntil
 none-open [] i e = (refl, refl)
 none-open (r ∷ rows) i e =
-    let a = or-false (opens r) (any opens rows) e in
+    let a = or-false (beginsOperator r) (any beginsOperator rows) e in
     let ih = none-open rows (suc i) (a .1) in
     rw (a .0) (ih .0, ap (_∷_ r) (ih .1))
 
@@ -121,8 +121,8 @@ module _ (shop sheet : List ℕ) (e : Order.checkOrder shop sheet ≡ passed) wh
   pub order-fits : Order.sizeWords + (Order.rowCount sheet + Order.rowCount sheet) ≤ length sheet
   order-fits = omega (arith, order-passed shop sheet e .size)
 
-  none-opens : (starts 0 (orderRows sheet) ≡ []) × (upTo opens (orderRows sheet) ≡ (orderRows sheet))
-  none-opens = none-open (orderRows sheet) 0 (order-opens-none shop sheet e)
+  none-begins : (starts 0 (orderRows sheet) ≡ []) × (takeUntil beginsOperator (orderRows sheet) ≡ (orderRows sheet))
+  none-begins = none-open (orderRows sheet) 0 (order-begins-none shop sheet e)
 
   -- No sheet has more than 4,000 rows.
   pub order-few : Order.rowCount sheet ≤ 4000
@@ -133,14 +133,14 @@ module _ (shop sheet : List ℕ) (e : Order.checkOrder shop sheet ≡ passed) wh
   order-length = rows-length Order.sizeWords (Order.rowCount sheet) sheet order-fits
 
   pub order-starts : starts 0 (orderRows sheet) ≡ []
-  order-starts = none-opens .0
+  order-starts = none-begins .0
 
   -- The whole sheet, from 0 up to N, is rows of goals and before them rows of atoms true at the start.
   pub order-until : Until (orderRows sheet) 0 (Order.rowCount sheet)
-  order-until = rw (none-opens .1) (omega (arith, order-length))
+  order-until = rw (none-begins .1) (omega (arith, order-length))
 
   pub order-whole : span (orderRows sheet) 0 (Order.rowCount sheet) ≡ orderRows sheet
-  order-whole = span-upto (orderRows sheet) 0 opens (Order.rowCount sheet) order-until ∙ none-opens .1
+  order-whole = span-take-until (orderRows sheet) 0 beginsOperator (Order.rowCount sheet) order-until ∙ none-begins .1
 
   -- Its walk over nodes starts at row 0, or behind the atoms true at the start.
   pub order-nodes-here : has Tag.node (getD (orderRows sheet) 0 (row 0 0)) ≡ true → NodesFrom (orderRows sheet) 0 (Order.rowCount sheet)
@@ -148,7 +148,7 @@ module _ (shop sheet : List ℕ) (e : Order.checkOrder shop sheet ≡ passed) wh
 
   pub order-nodes-later : 0 < Order.rowCount sheet → has Tag.node (getD (orderRows sheet) 0 (row 0 0)) ≡ false →
       let next = getD (ends 0 (orderRows sheet)) 0 0 in
-      (parts (has Tag.node) (span (orderRows sheet) 0 (Order.rowCount sheet)) ≡ parts (has Tag.node) (span (orderRows sheet) next (Order.rowCount sheet)))
+      (splitAtEach (has Tag.node) (span (orderRows sheet) 0 (Order.rowCount sheet)) ≡ splitAtEach (has Tag.node) (span (orderRows sheet) next (Order.rowCount sheet)))
       × NodesFrom (orderRows sheet) next (Order.rowCount sheet)
   order-nodes-later h o =
       first-node (orderRows sheet) 0 (Order.rowCount sheet) (omega (arith, order-length)) (until-suc (orderRows sheet) 0 (Order.rowCount sheet) order-until h) o

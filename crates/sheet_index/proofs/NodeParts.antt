@@ -6,7 +6,7 @@ use mathlib.Core.List.{List, [], _∷_, map}
 use lib.Dec.{ltb}
 use lib.ListN.{length, getD}
 use borrow.Author.Tests.{ltb-true, ltb-false}
-use Rattle.hgn.specs.Lists.{parts}
+use Rattle.hgn.specs.Lists.{splitAtEach}
 use Rattle.hgn.specs.Rows.{Row, has}
 use Rattle.hgn.specs.Tag as Tag
 use Rattle.sheet_index.specs.Index.{ends, span}
@@ -23,10 +23,10 @@ module _ (rows : List Row) (table : List ℕ) (fit : length rows ≤ length tabl
     pub record Walked (n e : ℕ) : Type 0 where
       pub list : List Bounds
       pub walked : Walk table e n list
-      pub same : map part list ≡ parts (has Tag.node) (span rows n e)
+      pub same : map part list ≡ splitAtEach (has Tag.node) (span rows n e)
 
     walk-none : (n e : ℕ) → e ≤ n → NodesFrom rows n e → Walked n e
-    unfolding parts
+    unfolding splitAtEach
     walk-none n e h w =
         let q : e ≡ n = omega (arith, w .until) in
         record { list = []; walked = subst (λ (k : ℕ). Walk table e k []) q stop; same = rw (span-empty rows n e h) refl }

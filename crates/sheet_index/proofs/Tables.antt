@@ -8,12 +8,12 @@ use lib.Seq.{getD-take}
 use Rattle.hgn.specs.Questions.{passed}
 use Rattle.hgn.specs.Rows.{mostRows}
 use Rattle.hgn.specs.Shop.{rowCount, actionCount, methodCount, shopRows, checkShop}
-use Rattle.hgn.proofs.Checked.{shop-of-order}
+use Rattle.hgn.proofs.Sheets.Checked.{shop-of-order}
 use Rattle.sheet_rows.specs.declared.position.Sheet.the-variants as Of
 use Rattle.sheet_index.specs.Index.{ends, span, startsIn, Indexable, layoutOf, spanOf, spanRows}
 use Rattle.sheet_index.specs.Tables.{Indexed}
 use Rattle.sheet_index.proofs.Spans.{bounds, read-start, ends-length}
-use Rattle.sheet_index.proofs.Indexed.{shop-length, blocks-count, shop-columns, shop-indexable}
+use Rattle.sheet_index.proofs.Indexed.{shop-length, operators-count, shop-columns, shop-indexable}
 
 module _ {shop order table : List ℕ} (ix : Indexed shop order table) where
   pub shop-passes : checkShop shop ≡ passed
@@ -24,7 +24,7 @@ module _ {shop order table : List ℕ} (ix : Indexed shop order table) where
 
   pub starts-fit : actionCount shop + methodCount shop < length (startsIn table)
   starts-fit =
-      omega (arith, simp (length-take, length-append) at (ap length (ix .starts-are)), blocks-count shop shop-passes)
+      omega (arith, simp (length-take, length-append) at (ap length (ix .starts-are)), operators-count shop shop-passes)
 
   pub end-at : (i : ℕ) → i < length (shopRows shop) → getD table i 0 ≡ getD (ends 0 (shopRows shop)) i 0
   end-at i h = sym (getD-take (rowCount shop) table i 0 (omega (arith, shop-length shop shop-passes))) ∙ ap (λ (l : List ℕ). getD l i 0) (ix .ends-are)
@@ -34,7 +34,7 @@ module _ {shop order table : List ℕ} (ix : Indexed shop order table) where
   start-at b h =
       sym (getD-take (suc (actionCount shop + methodCount shop)) (startsIn table) b 0 (omega arith))
       ∙ ap (λ (l : List ℕ). getD l b 0) (ix .starts-are)
-      ∙ read-start (shopRows shop) (rowCount shop) [] b (sym (shop-length shop shop-passes)) (omega (arith, blocks-count shop shop-passes))
+      ∙ read-start (shopRows shop) (rowCount shop) [] b (sym (shop-length shop shop-passes)) (omega (arith, operators-count shop shop-passes))
 
   pub rows-of : (from to : ℕ) → from ≤ to → to ≤ length (shopRows shop)
       → spanRows shop order (spanOf Of.Shop from to) ≡ span (shopRows shop) from to

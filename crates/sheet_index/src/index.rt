@@ -8,7 +8,7 @@ use sheet_rows::position::Sheet;
 use sheet_rows::tag;
 ghost use mathlib.Core.Path.{_≡_};
 ghost use Prim.Native.Nat.{_+_, _≤_};
-ghost use Rattle.sheet_index.specs.Index.{Indexable, Filled, wordsOf, layoutOf, columnPart, tagsOf, valuesOf};
+ghost use Rattle.sheet_index.specs.Index.{Indexable, Filled, sheetWords, layoutOf, columnPart, tagsOf, valuesOf};
 
 // Rows `from` up to `to` of a sheet: an action, a method, a node.
 pub struct Span {
@@ -32,18 +32,18 @@ impl Tables {
     // Where the starts begin.
     pub const STARTS: usize = Layout::MOST_ROWS as usize;
     // Room for the ends and the starts of every sheet.
-    pub const WORDS: usize = Self::STARTS + Shop::MOST_BLOCKS + 1;
+    pub const WORDS: usize = Self::STARTS + Shop::MOST_OPERATORS + 1;
 }
 
 // The table of a sheet with so many actions and methods, filled from its last row to its first: `end` is the next row that begins a part.
-pub fn fill(words: &[u16], layout: Layout, tables: &mut [u16], blocks: usize)
-    requires { ⌜ Indexable (now words) layout (now tables) blocks ⌝ }
-    ensures { λ _. ⌜ Filled (now (words .entry)) layout blocks (now (tables .entry)) (now (tables .exit)) ⌝ }
+pub fn fill_tables(words: &[u16], layout: Layout, tables: &mut [u16], operators: usize)
+    requires { ⌜ Indexable (now words) layout (now tables) operators ⌝ }
+    ensures { λ _. ⌜ Filled (now (words .entry)) layout operators (now (tables .entry)) (now (tables .exit)) ⌝ }
 {
     let rows = layout.rows as u16;
-    tables[Tables::STARTS + blocks] = rows;
+    tables[Tables::STARTS + operators] = rows;
     let mut end = rows;
-    let mut block = blocks;
+    let mut operator = operators;
     let mut row = rows;
     while 0 < row {
         row -= 1;
@@ -52,8 +52,8 @@ pub fn fill(words: &[u16], layout: Layout, tables: &mut [u16], blocks: usize)
         tables[at] = end;
         if tag::one_of_2(tag, tag::ACTION, tag::METHOD) {
             end = row;
-            block -= 1;
-            tables[Tables::STARTS + block] = row;
+            operator -= 1;
+            tables[Tables::STARTS + operator] = row;
         } else if tag == tag::NODE {
             end = row;
         }
@@ -61,8 +61,8 @@ pub fn fill(words: &[u16], layout: Layout, tables: &mut [u16], blocks: usize)
 }
 
 // The words of a sheet.
-pub fn words_of<'a>(sheet: Sheet, shop: &'a [u16], order: &'a [u16]) -> &'a [u16]
-    ensures { λ r. ⌜ now r ≡ wordsOf sheet (now (shop .entry)) (now (order .entry)) ⌝ }
+pub fn sheet_words<'a>(sheet: Sheet, shop: &'a [u16], order: &'a [u16]) -> &'a [u16]
+    ensures { λ r. ⌜ now r ≡ sheetWords sheet (now (shop .entry)) (now (order .entry)) ⌝ }
 {
     match sheet {
         Sheet::Shop => shop,
@@ -114,7 +114,7 @@ pub fn tags_of<'a>(span: Span, shop: &'a [u16], order: &'a [u16]) -> &'a [u16]
     ensures { λ r. ⌜ now r ≡ tagsOf span (now (shop .entry)) (now (order .entry)) ⌝ }
 {
     let sheet = span.sheet;
-    let words = words_of(sheet, shop, order);
+    let words = sheet_words(sheet, shop, order);
     let layout = layout_of(sheet, words);
     column_part(words, layout, layout.sizes, span.from, span.to)
 }
@@ -124,7 +124,7 @@ pub fn values_of<'a>(span: Span, shop: &'a [u16], order: &'a [u16]) -> &'a [u16]
     ensures { λ r. ⌜ now r ≡ valuesOf span (now (shop .entry)) (now (order .entry)) ⌝ }
 {
     let sheet = span.sheet;
-    let words = words_of(sheet, shop, order);
+    let words = sheet_words(sheet, shop, order);
     let layout = layout_of(sheet, words);
     column_part(
         words,

@@ -11,8 +11,8 @@ ghost use mathlib.Core.Path.{_≡_};
 ghost use mathlib.Core.List.{List, []};
 ghost use Prim.Native.Nat.{ℕ, _+_, _<_, _≤_};
 ghost use lib.ListN.{length, getD};
-ghost use Rattle.hgn.specs.Lists.{parts};
-ghost use Rattle.hgn.specs.Meaning.{opens};
+ghost use Rattle.hgn.specs.Lists.{splitAtEach};
+ghost use Rattle.hgn.specs.Meaning.{beginsOperator};
 ghost use Rattle.hgn.specs.Rows.{mostRows};
 ghost use Rattle.hgn.specs.Run.{actionAt};
 ghost use Rattle.hgn.specs.Shop.{domain, actionCount, methodCount, shopRows};
@@ -86,7 +86,7 @@ impl Part {
 pub fn operator_rows(tables: &[u16], operator: u16) -> Span
     requires { ⌜ ((shop order : List ℕ) × Indexed shop order (now tables) × (operator < actionCount shop + methodCount shop)) ⌝ }
     ensures { λ r. ⌜ ((shop order : List ℕ) → Indexed shop order (now (tables .entry)) → operator < actionCount shop + methodCount shop
-        → spanRows shop order r ≡ getD (parts opens (shopRows shop)) operator []) ⌝ }
+        → spanRows shop order r ≡ getD (splitAtEach beginsOperator (shopRows shop)) operator []) ⌝ }
 {
     let at = Tables::STARTS + operator as usize;
     let from = Row(tables[at]);

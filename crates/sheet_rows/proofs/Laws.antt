@@ -8,9 +8,9 @@ use lib.Dec.{eqb, leb}
 use mir.Syntax.{w16}
 use mir.Val.{Fits}
 use borrow.Author.Tests.{eq-eqb, ne-eqb, le-leb, lt-leb}
-use Rattle.hgn.specs.Lists.{among, any}
+use Rattle.hgn.specs.Lists.{elem, any}
 use Rattle.hgn.specs.Tag.{Position, begins, method, node, mostCost}
-use Rattle.hgn.proofs.Tests.{any-append}
+use Rattle.hgn.proofs.Logic.Tests.{any-append}
 use Rattle.sheet_rows.specs.Reading.{RowReading, next, refused}
 
 -- What a call ensures of its answer, and what a branch on that answer tells.
@@ -39,29 +39,29 @@ module _ {b : Bool} where
 
 -- A tag is the first of a list, or it is looked for among the others.
 module _ (t a : ℕ) where
-  pub among-one : eqb t a ≡ among t (a ∷ [])
-  unfolding among any
-  among-one = sym (or-false (eqb t a))
+  pub elem-one : eqb t a ≡ elem t (a ∷ [])
+  unfolding elem any
+  elem-one = sym (or-false (eqb t a))
 
-  pub among-first : (rest : List ℕ) → t ≡ a → true ≡ among t (a ∷ rest)
-  unfolding among any
-  among-first rest e = or-first _ (eq-eqb t a e)
+  pub elem-first : (rest : List ℕ) → t ≡ a → true ≡ elem t (a ∷ rest)
+  unfolding elem any
+  elem-first rest e = or-first _ (eq-eqb t a e)
 
-  pub among-rest : {r : Bool} (rest : List ℕ) → (t ≡ a → ⊥) → r ≡ among t rest → r ≡ among t (a ∷ rest)
-  unfolding among any
-  among-rest rest e p = or-second (ne-eqb t a e) p
+  pub elem-rest : {r : Bool} (rest : List ℕ) → (t ≡ a → ⊥) → r ≡ elem t rest → r ≡ elem t (a ∷ rest)
+  unfolding elem any
+  elem-rest rest e p = or-second (ne-eqb t a e) p
 
 -- It is one of the first two, or it is looked for among the others.
 module _ (t a b : ℕ) (rest : List ℕ) where
-  among-two : among t (a ∷ b ∷ rest) ≡ (among t (a ∷ b ∷ []) || among t rest)
-  unfolding among any
-  among-two = any-append (eqb t) (a ∷ b ∷ []) rest
+  elem-two : elem t (a ∷ b ∷ rest) ≡ (elem t (a ∷ b ∷ []) || elem t rest)
+  unfolding elem any
+  elem-two = any-append (eqb t) (a ∷ b ∷ []) rest
 
-  pub among-front : among t (a ∷ b ∷ []) ≡ true → true ≡ among t (a ∷ b ∷ rest)
-  among-front e = rw among-two (or-first _ e)
+  pub elem-front : elem t (a ∷ b ∷ []) ≡ true → true ≡ elem t (a ∷ b ∷ rest)
+  elem-front e = rw elem-two (or-first _ e)
 
-  pub among-back : {r : Bool} → among t (a ∷ b ∷ []) ≡ false → r ≡ among t rest → r ≡ among t (a ∷ b ∷ rest)
-  among-back e p = rw among-two (or-second e p)
+  pub elem-back : {r : Bool} → elem t (a ∷ b ∷ []) ≡ false → r ≡ elem t rest → r ≡ elem t (a ∷ b ∷ rest)
+  elem-back e p = rw elem-two (or-second e p)
 
 -- Every 16-bit number is a cost.
 pub is-cost : {v : ℕ} → Fits w16 v → true ≡ leb v mostCost
@@ -70,11 +70,11 @@ is-cost {v} h = sym (le-leb v mostCost (omega arith))
 -- A method's and a node's rows stand in no group.
 module _ {t : ℕ} where
   pub method-begins : t ≡ method → begins t ≡ true
-  unfolding begins among any
+  unfolding begins elem any
   method-begins e = ap begins e
 
   pub node-begins : t ≡ node → begins t ≡ true
-  unfolding begins among any
+  unfolding begins elem any
   node-begins e = ap begins e
 
 -- Positions and readings are the same where their parts are.
@@ -90,13 +90,13 @@ same-refused e = ap {B = RowReading} refused e
 pub same-sum : {m n : ℕ} (k : ℕ) → m ≡ n → m + k ≡ n + k
 same-sum k e = omega arith
 
--- `chosen`: by answers of calls. `decided`: by those and by a tag. `listed`: a tag in a list. `same`: readings. `within`: limits, all kept
+-- `chosen`: by answers of calls. `decided`: by those and by a tag. `elements`: a tag in a list. `same`: readings. `within`: limits, all kept
 -- to or one not.
 pub ruleset chosen = (told, cond-first, cond-second)
 
 pub ruleset decided = (chosen, eq-eqb, ne-eqb)
 
-pub ruleset listed = (told, among-one, among-first, among-rest, among-front, among-back)
+pub ruleset elements = (told, elem-one, elem-first, elem-rest, elem-front, elem-back)
 
 pub ruleset same = (same-next, same-refused, same-sum)
 

@@ -3,7 +3,7 @@ use Prim.Native.Nat.{ℕ, suc, _+_}
 use mathlib.Core.Bool.{Bool, false, cond}
 use mathlib.Core.List.{List, [], _∷_}
 use lib.Dec.{eqb, leb, ltb}
-use Rattle.hgn.specs.Lists.{among}
+use Rattle.hgn.specs.Lists.{elem}
 use Rattle.hgn.specs.Tag as Tag
 use Rattle.sheet_rows.specs.declared.position.Sheet.{Sheet}
 use Rattle.sheet_rows.specs.declared.position.Sheet.the-variants.{Shop, Order}
@@ -45,7 +45,7 @@ readingOf (Refused number) = refused number
 -- The three questions of a row at a position, `q` the first's number.
 unfoldable pub rowReading : (Tag.Context → List ℕ) → ℕ → ℕ → Tag.Position → ℕ → ℕ → RowReading
 rowReading follow q F p t v =
-    cond (among t (follow (p .context)))
+    cond (elem t (follow (p .context)))
     (cond (Tag.inRange F p t v)
     (cond (Tag.rises p t v) (next (Tag.advance p t v)) (refused (q + 2)))
     (refused (q + 1)))
@@ -59,7 +59,7 @@ goesOn F p t v = cond (leb (p .least) v) (elim (p .context) [
   | Tag.inEffects ↦ false
   | Tag.inMethod ↦ false
   | Tag.inNode ↦ cond (eqb t Tag.after) (ltb (suc v) (p .nodes)) false
-  | Tag.inAlternative ↦ cond (among t (Tag.wantedTrue ∷ Tag.wantedFalse ∷ [])) (ltb v F) false
+  | Tag.inAlternative ↦ cond (elem t (Tag.wantedTrue ∷ Tag.wantedFalse ∷ [])) (ltb v F) false
 ]) false
 
 abbrev pub above : Tag.Position → ℕ → Tag.Position

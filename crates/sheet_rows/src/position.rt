@@ -6,7 +6,7 @@ ghost use Prim.Native.Nat.{_+_};
 ghost use lib.Dec.{ltb};
 ghost use mir.Syntax.{w16};
 ghost use mir.Val.{Fits};
-ghost use Rattle.hgn.specs.Lists.{among};
+ghost use Rattle.hgn.specs.Lists.{elem};
 ghost use Rattle.hgn.specs.Tag.{contextAfter, mayEnd, leastHere, inRange, rises, advance, opening};
 ghost use Rattle.sheet_rows.specs.Reading.{contextOf, positionOf, followOf, firstQuestionOf, readingOf, rowReading, goesOn, above};
 
@@ -85,7 +85,7 @@ impl Context {
 
     // The tag may follow here in a shop sheet.
     pub fn allows_in_shop(self, tag: u16) -> bool
-        ensures { λ r. ⌜ r ≡ among tag (followOf Sheet.Shop (contextOf self)) ⌝ }
+        ensures { λ r. ⌜ r ≡ elem tag (followOf Sheet.Shop (contextOf self)) ⌝ }
     {
         match self {
             Context::AtStart => tag::one_of_2(tag, tag::ACTION, tag::METHOD),
@@ -123,7 +123,7 @@ impl Context {
 
     // The tag may follow here in an order sheet.
     pub fn allows_in_order(self, tag: u16) -> bool
-        ensures { λ r. ⌜ r ≡ among tag (followOf Sheet.Order (contextOf self)) ⌝ }
+        ensures { λ r. ⌜ r ≡ elem tag (followOf Sheet.Order (contextOf self)) ⌝ }
     {
         match self {
             Context::AtStart => tag::one_of_2(tag, tag::TRUE_AT_START, tag::NODE),
@@ -142,7 +142,7 @@ impl Context {
     }
 
     pub fn allows(self, sheet: Sheet, tag: u16) -> bool
-        ensures { λ r. ⌜ r ≡ among tag (followOf sheet (contextOf self)) ⌝ }
+        ensures { λ r. ⌜ r ≡ elem tag (followOf sheet (contextOf self)) ⌝ }
     {
         match sheet {
             Sheet::Shop => self.allows_in_shop(tag),

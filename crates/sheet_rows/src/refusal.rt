@@ -1,7 +1,7 @@
 // What a check, a step and a call tell where a question is answered no. Document 01, "Questions".
 ghost use mathlib.Core.Path.{_≡_};
 ghost use mathlib.Core.Bool.{false};
-ghost use Rattle.hgn.specs.Questions.{_asks_, placed, passed, told};
+ghost use Rattle.hgn.specs.Questions.{_asks_, placed, passed, answered};
 ghost use Rattle.sheet_rows.specs.Refusals.{refusalOf};
 
 // The number of the question and its place. 0 and 0 where every question was answered yes.
@@ -13,7 +13,7 @@ pub struct Refusal {
 impl Refusal {
     // Every question was answered yes.
     pub fn none() -> Refusal
-        ensures { λ r. ⌜ refusalOf r ≡ told passed ⌝ }
+        ensures { λ r. ⌜ refusalOf r ≡ answered passed ⌝ }
     {
         Refusal {
             number: 0,

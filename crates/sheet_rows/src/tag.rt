@@ -1,7 +1,7 @@
 // The twelve tags by name. Document 01, "The three sheets".
 ghost use mathlib.Core.Path.{_≡_};
 ghost use mathlib.Core.List.{[], _∷_};
-ghost use Rattle.hgn.specs.Lists.{among};
+ghost use Rattle.hgn.specs.Lists.{elem};
 ghost use Rattle.hgn.specs.Tag.{begins};
 
 pub const ACTION: u16 = 1;
@@ -30,7 +30,7 @@ pub const TRUE_AT_START: u16 = 12;
 
 // The tag is one of these.
 pub fn one_of_2(tag: u16, a: u16, b: u16) -> bool
-    ensures { λ r. ⌜ r ≡ among tag (a ∷ b ∷ []) ⌝ }
+    ensures { λ r. ⌜ r ≡ elem tag (a ∷ b ∷ []) ⌝ }
 {
     if tag == a {
         return true;
@@ -39,7 +39,7 @@ pub fn one_of_2(tag: u16, a: u16, b: u16) -> bool
 }
 
 pub fn one_of_3(tag: u16, a: u16, b: u16, c: u16) -> bool
-    ensures { λ r. ⌜ r ≡ among tag (a ∷ b ∷ c ∷ []) ⌝ }
+    ensures { λ r. ⌜ r ≡ elem tag (a ∷ b ∷ c ∷ []) ⌝ }
 {
     if tag == a {
         return true;
@@ -48,7 +48,7 @@ pub fn one_of_3(tag: u16, a: u16, b: u16, c: u16) -> bool
 }
 
 pub fn one_of_4(tag: u16, a: u16, b: u16, c: u16, d: u16) -> bool
-    ensures { λ r. ⌜ r ≡ among tag (a ∷ b ∷ c ∷ d ∷ []) ⌝ }
+    ensures { λ r. ⌜ r ≡ elem tag (a ∷ b ∷ c ∷ d ∷ []) ⌝ }
 {
     if tag == a {
         return true;

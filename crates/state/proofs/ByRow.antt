@@ -6,17 +6,17 @@ use mathlib.Core.List.{List, [], _∷_, _++_}
 use lib.ListN.{length, set}
 use lib.Seq.{set-out}
 use borrow.Author.Tests.{eq-eqb, ne-eqb}
-use Rattle.hgn.specs.Rows.{Row, row, has, valuesOf}
+use Rattle.hgn.specs.Rows.{Row, row, has, valuesTagged}
 use Rattle.hgn.specs.Meaning.{literals}
 use Rattle.hgn.specs.State.{State, assign, literalHolds, allHold}
-use Rattle.hgn.proofs.Tests.{all-append}
+use Rattle.hgn.proofs.Logic.Tests.{all-append}
 use Rattle.state.specs.Effects.{setEach}
 
 abbrev pub allHoldIn : State → ℕ → ℕ → List Row → Bool
 allHoldIn s t f rs = allHold s (literals t f rs)
 
 abbrev pub assignedIn : Bool → ℕ → State → List Row → State
-assignedIn b t s rs = assign b (valuesOf t rs) s
+assignedIn b t s rs = assign b (valuesTagged t rs) s
 
 module _ (t f : ℕ) where
   -- A row's literal is a true one, a false one, or none.
@@ -60,15 +60,15 @@ module _ (t f : ℕ) where
 -- A row's value is assigned before those of the rows after it, or it has another tag, or it is no atom.
 module _ (b : Bool) (tag : ℕ) (s : State) (t v : ℕ) (rs : List Row) where
   pub assigned-first : t ≡ tag → assignedIn b tag s (row t v ∷ rs) ≡ assignedIn b tag (set s v b) rs
-  unfolding valuesOf assign
+  unfolding valuesTagged assign
   assigned-first e = rw (eq-eqb t tag e)
 
   pub assigned-other : (t ≡ tag → ⊥) → assignedIn b tag s (row t v ∷ rs) ≡ assignedIn b tag s rs
-  unfolding valuesOf
+  unfolding valuesTagged
   assigned-other d = rw (ne-eqb t tag d)
 
   pub assigned-none : t ≡ tag → length s ≤ v → assignedIn b tag s (row t v ∷ rs) ≡ assignedIn b tag s rs
-  assigned-none e h = assigned-first e ∙ ap (assign b (valuesOf tag rs)) (set-out s v b h)
+  assigned-none e h = assigned-first e ∙ ap (assign b (valuesTagged tag rs)) (set-out s v b h)
 
 -- A row's literal is set before those of the rows after it, or it has none, or its atom is none of the state's.
 abbrev pub setIn : ℕ → ℕ → State → List Row → State

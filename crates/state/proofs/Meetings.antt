@@ -9,7 +9,7 @@ use Rattle.hgn.specs.Lists.{any}
 use Rattle.hgn.specs.Rows.{Row}
 use Rattle.hgn.specs.Meaning.{Literal, literals}
 use Rattle.hgn.specs.State.{opposite, contains}
-use Rattle.hgn.proofs.Tests.{any-append}
+use Rattle.hgn.proofs.Logic.Tests.{any-append}
 use Rattle.state.specs.Effects.{metOf}
 use Rattle.state.specs.declared.literals.Met.{Met}
 use Rattle.state.specs.declared.literals.Met.the-variants.{Opposite, Same, Neither}

@@ -5,7 +5,7 @@ use sheet_index::index::Part;
 use sheet_rows::position::Atom;
 ghost use mathlib.Core.Path.{_≡_};
 ghost use mathlib.Core.List.{zipWith};
-ghost use Rattle.hgn.specs.Rows.{row, valuesOf};
+ghost use Rattle.hgn.specs.Rows.{row, valuesTagged};
 ghost use Rattle.hgn.specs.Meaning.{literals};
 ghost use Rattle.hgn.specs.State.{emptyState, literalHolds, assign};
 ghost use Rattle.sheet_index.specs.Index.{partRows, Lies};
@@ -41,7 +41,7 @@ pub fn holds(atoms: &[bool; Shop::MOST_ATOMS as usize], atom: Atom, sign: bool) 
 
 // The atoms in the values of the rows with this tag are put in (true) or taken out (false), where they stand.
 pub fn assign(atoms: &mut [bool], tags: &[u16], values: &[u16], tag: u16, to: bool)
-    ensures { λ _. ⌜ now (atoms .exit) ≡ assign to (valuesOf tag (zipWith row (now (tags .entry)) (now (values .entry)))) (now (atoms .entry)) ⌝ }
+    ensures { λ _. ⌜ now (atoms .exit) ≡ assign to (valuesTagged tag (zipWith row (now (tags .entry)) (now (values .entry)))) (now (atoms .entry)) ⌝ }
 {
     let n = part::rows(tags, values);
     let mut i = 0;
@@ -65,7 +65,7 @@ pub fn assigned(
     tag: u16,
     to: bool,
 ) -> [bool; Shop::MOST_ATOMS as usize]
-    ensures { λ r. ⌜ r ≡ assign to (valuesOf tag (zipWith row (now (tags .entry)) (now (values .entry)))) atoms ⌝ }
+    ensures { λ r. ⌜ r ≡ assign to (valuesTagged tag (zipWith row (now (tags .entry)) (now (values .entry)))) atoms ⌝ }
 {
     let mut next = atoms;
     assign(&mut next, tags, values, tag, to);

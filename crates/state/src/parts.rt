@@ -24,7 +24,7 @@ pub fn goal_holds<'a>(
 }
 
 // The effects in a part of the shop sheet, with one tag for true and one for false, are relevant to a node with those rows.
-pub fn helps<'a>(
+pub fn relevant_to<'a>(
     shop: &'a [u16],
     order: &'a [u16],
     effects: Part,

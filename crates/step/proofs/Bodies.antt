@@ -13,20 +13,20 @@ use Rattle.hgn.specs.Questions as Questions
 use Rattle.hgn.specs.Questions.{_asks_, passed, firstNo}
 use Rattle.hgn.specs.Meaning.{Node, nodeOf, goalOf, networkOf}
 use Rattle.hgn.specs.State.{State, allHold, formulaHolds, relevant}
-use Rattle.hgn.specs.Network.{Waiting, Origin, step, mostWaiting, free, anyFree, goalAt, decomposed}
+use Rattle.hgn.specs.Network.{Waiting, Origin, from-step, mostWaiting, free, anyFree, goalAt, decomposed}
 use Rattle.hgn.specs.Run as Run
 use Rattle.hgn.specs.Run.{Step, Problem, Rules, strict, moveOf, actionAt, methodAt, known, ownQuestions, stepQuestions, deedOf, moved, refused, taken, stepped}
 use Rattle.hgn.specs.Shop.{domain, actionCount, methodCount, checkShop}
-use Rattle.hgn.proofs.Firsts.{refused-number, passed-cons}
-use Rattle.hgn.proofs.Numbers.{step-numbers, not-zero}
-use Rattle.hgn.proofs.Checked.{shop-counts}
-use Rattle.hgn.proofs.Steps as Steps
-use Rattle.hgn.proofs.Steps.{some-free, step-passed}
-use Rattle.hgn.proofs.Waiting.{length-enter}
+use Rattle.hgn.proofs.Questions.FirstNo.{refused-number, passed-cons}
+use Rattle.hgn.proofs.Questions.Numbers.{step-numbers, not-zero}
+use Rattle.hgn.proofs.Sheets.Checked.{shop-counts}
+use Rattle.hgn.proofs.Run.Steps as Steps
+use Rattle.hgn.proofs.Run.Steps.{some-free, step-passed}
+use Rattle.hgn.proofs.Network.Waiting.{length-enter}
 use Rattle.sheet_index.specs.declared.index.Span.{Span}
 use Rattle.sheet_index.specs.Index.{spanRows}
 use Rattle.step.specs.Moves.{knownOf, moveRead}
-use Rattle.step.specs.Deciding.{Faces, Room}
+use Rattle.step.specs.Deciding.{Faces, WithinLimit}
 use Rattle.step.specs.declared.moves.Move.{Move}
 use Rattle.step.specs.declared.moves.Move.the-variants.{Release, Act, Use}
 
@@ -139,7 +139,7 @@ module _ (shop order : List ℕ) (s : State) (goal : Span) (count limit n p : �
   module _ (m : ℕ) where
     pub size : length (moved (domain shop) n P p (Run.use-method m) .waiting) ≡ count + length (networkOf (methodAt (domain shop) m))
     unfolding moved
-    size = decomposed-length (P .waiting) p (step n) (networkOf (methodAt (domain shop) m)) ∙ ap (λ (k : ℕ). k + length (networkOf (methodAt (domain shop) m))) (f .size)
+    size = decomposed-length (P .waiting) p (from-step n) (networkOf (methodAt (domain shop) m)) ∙ ap (λ (k : ℕ). k + length (networkOf (methodAt (domain shop) m))) (f .size)
 
     pub use-30 : allHold s (methodAt (domain shop) m .needs) ≡ false → own (Run.use-method m) ≡ Questions.refused ((30 asks false) .refusal)
     unfolding ownQuestions firstNo
@@ -161,7 +161,7 @@ module _ (shop order : List ℕ) (s : State) (goal : Span) (count limit n p : �
         use-passed h = rw (size, f .state, a, f .formula, b, h)
 
   -- Where none of them fails within a limit of at most 64, a method leaves at most 64 waiting.
-  pub own-room : limit ≤ mostWaiting → (m : Move) → own (knownOf m) ≡ passed → Room (domain shop) count m
+  pub own-room : limit ≤ mostWaiting → (m : Move) → own (knownOf m) ≡ passed → WithinLimit (domain shop) count m
   unfolding ownQuestions
   own-room few Release e = tt
   own-room few (Act k) e = tt

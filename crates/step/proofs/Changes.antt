@@ -9,7 +9,7 @@ use lib.Seq.{set-comm}
 use Rattle.hgn.specs.Meaning.{Literal}
 use Rattle.hgn.specs.State.{State, assign, atomsOf, γ}
 use Rattle.hgn.specs.Written.{ConjunctRules}
-use Rattle.hgn.proofs.Rules.{Rise, atoms, rise}
+use Rattle.hgn.proofs.Sheets.Rules.{Rise, atoms, rise}
 use Rattle.state.specs.Effects.{setEach}
 
 -- An atom that is none of those assigned may be set before them.

@@ -8,7 +8,7 @@ use lib.Dec.{leb}
 use lib.ListN.{length}
 use borrow.Author.Tests.{ne-eqb}
 use Rattle.hgn.specs.Questions as Questions
-use Rattle.hgn.specs.Questions.{_asks_, passed, firstNo, told}
+use Rattle.hgn.specs.Questions.{_asks_, passed, firstNo, answered}
 use Rattle.hgn.specs.Tag as Tag
 use Rattle.hgn.specs.Meaning.{literals, nodeOf, goalOf, networkOf}
 use Rattle.hgn.specs.State.{State, allHold, relevant}
@@ -17,7 +17,7 @@ use Rattle.hgn.specs.Network.{mostWaiting, goalAt, free, anyFree}
 use Rattle.hgn.specs.Run as Run
 use Rattle.hgn.specs.Run.{Problem, Rules, strict, refused, moveOf, methodAt, ownQuestions}
 use Rattle.hgn.specs.Shop.{domain, actionCount, methodCount}
-use Rattle.hgn.proofs.Firsts.{Numbers, refused-number}
+use Rattle.hgn.proofs.Questions.FirstNo.{Numbers, refused-number}
 use Rattle.sheet_rows.specs.Refusals.{refusalOf}
 use Rattle.sheet_rows.specs.declared.refusal.Refusal.{Refusal}
 use Rattle.sheet_rows.specs.declared.position.Sheet.the-variants as Of
@@ -29,14 +29,14 @@ use Rattle.sheet_index.specs.Tables.{Indexed, ActionIn, Bounds, Walk, NodesCoun
 use Rattle.sheet_index.specs.declared.operators.Nodes.{Nodes}
 use Rattle.sheet_index.specs.declared.operators.MethodRows.{MethodRows}
 use Rattle.step.specs.Moves.{Known, knownOf, readOf, moveRead}
-use Rattle.step.specs.Deciding.{Faces, Answers, OfAction, toldOf, SeenIn, Decides}
-use Rattle.network.specs.declared.goals.Seen.{Seen}
+use Rattle.step.specs.Deciding.{Faces, Answers, ActionAnswers, withQuestion27, StatusIn, Decides}
+use Rattle.network.specs.declared.goals.GoalStatus.{GoalStatus}
 use Rattle.step.specs.declared.moves.Move.{Move}
 use Rattle.step.specs.declared.moves.Move.the-variants.{Release, Act, Use}
 use Rattle.step.specs.declared.moves.Read.{Read}
-use Rattle.step.specs.declared.moves.Read.the-variants.{Is, Unreadable}
+use Rattle.step.specs.declared.moves.Read.the-variants.{Readable, Unreadable}
 use Rattle.step.specs.declared.questions.Load.{Load}
-use Rattle.step.specs.declared.questions.Decision.the-variants.{Refused, Takes}
+use Rattle.step.specs.declared.questions.Decision.the-variants.{Refused, Allowed}
 use Rattle.sheet_index.proofs.Tables.{shop-passes}
 use Rattle.sheet_index.proofs.OperatorRows.{method-size}
 use Rattle.step.proofs.Bodies.{read-by-counts, step-25, step-26, step-27, step-28, own-refuses, own-takes, own-room, use-30, use-31, use-32, use-passed}
@@ -54,12 +54,12 @@ module _ (r : Rules) (n p : ℕ) (P : Problem) where
   own-above m q e = refused-number (λ k. 28 < k) (ownQuestions r n P p (knownOf m)) (own-numbers m) q e
 
   -- What was told of them: 0 where they passed, and else the refusal.
-  pub own-told : (m : Move) (a : Questions.Refusal) → a ≡ told (firstNo (ownQuestions r n P p (knownOf m)))
+  pub own-told : (m : Move) (a : Questions.Refusal) → a ≡ answered (firstNo (ownQuestions r n P p (knownOf m)))
       → (a .number ≡ 0 → firstNo (ownQuestions r n P p (knownOf m)) ≡ passed)
       × ((a .number ≡ 0 → ⊥) → (firstNo (ownQuestions r n P p (knownOf m)) ≡ Questions.refused a) × (28 < a .number))
   own-told m a e = go (firstNo (ownQuestions r n P p (knownOf m))) refl e
     where
-      go : (o : Questions.Verdict) → firstNo (ownQuestions r n P p (knownOf m)) ≡ o → a ≡ told o
+      go : (o : Questions.Verdict) → firstNo (ownQuestions r n P p (knownOf m)) ≡ o → a ≡ answered o
           → (a .number ≡ 0 → firstNo (ownQuestions r n P p (knownOf m)) ≡ passed)
           × ((a .number ≡ 0 → ⊥) → (firstNo (ownQuestions r n P p (knownOf m)) ≡ Questions.refused a) × (28 < a .number))
       go passed f g = (λ z. f, λ z. absurd (z (ap (λ (k : Questions.Refusal). k .number) g)))
@@ -70,17 +70,17 @@ module _ (r : Rules) (n p : ℕ) (P : Problem) where
 
 -- A move that was read is known.
 pub read-known : (shop : List ℕ) (move actions methods : ℕ) → actions ≡ actionCount shop → methods ≡ methodCount shop
-    → (reading : Read) → readOf reading ≡ moveRead move actions methods → {m : Move} → reading ≡ Is m → Known (actionCount shop) (methodCount shop) m
+    → (reading : Read) → readOf reading ≡ moveRead move actions methods → {m : Move} → reading ≡ Readable m → Known (actionCount shop) (methodCount shop) m
 read-known shop move actions methods a b reading reads {m} e = known-read move _ _ m (sym (ap readOf e) ∙ reads ∙ rw (a, b))
 
 -- What is decided of a step, question by question.
-module _ {shop order table : List ℕ} (ix : Indexed shop order table) (s : State) (load : Load) (move p : ℕ) (seen : Seen)
-    (P : Problem) (look : SeenIn shop order s (load .count) seen P p) where
+module _ {shop order table : List ℕ} (ix : Indexed shop order table) (s : State) (load : Load) (move p : ℕ) (status : GoalStatus)
+    (P : Problem) (look : StatusIn shop order s (load .count) status P p) where
   abbrev rules : Rules
   rules = strict (load .limit) (domain shop)
 
   pub decide-past : load .count ≤ p → (r : Refusal) → refusalOf r ≡ (25 asks false) .refusal → Decides (load .limit) shop P move p (Refused r)
-  decide-past h r e n = step-25 rules n P move p (omega (arith, look .size)) ∙ ap (λ (q : Questions.Refusal). refused (toldOf (P .waiting) q)) (sym e)
+  decide-past h r e n = step-25 rules n P move p (omega (arith, look .size)) ∙ ap (λ (q : Questions.Refusal). refused (withQuestion27 (P .waiting) q)) (sym e)
 
   module _ (h : p < load .count) {actions methods : ℕ} (a : actions ≡ actionCount shop) (b : methods ≡ methodCount shop)
       (reading : Read) (reads : readOf reading ≡ moveRead move actions methods) where
@@ -92,30 +92,30 @@ module _ {shop order table : List ℕ} (ix : Indexed shop order table) (s : Stat
 
     pub decide-unknown : reading ≡ Unreadable → (r : Refusal) → refusalOf r ≡ (26 asks false) .refusal → Decides (load .limit) shop P move p (Refused r)
     decide-unknown e r z n =
-        step-26 rules n P move p inside (move-is ∙ ap readOf e) ∙ ap (λ (q : Questions.Refusal). refused (toldOf (P .waiting) q)) (sym z)
+        step-26 rules n P move p inside (move-is ∙ ap readOf e) ∙ ap (λ (q : Questions.Refusal). refused (withQuestion27 (P .waiting) q)) (sym z)
 
-    module _ {m : Move} (e : reading ≡ Is m) where
-      goal-free : {v : Bool} → seen .free ≡ v → free (P .waiting) (goalAt (P .waiting) p) ≡ v
+    module _ {m : Move} (e : reading ≡ Readable m) where
+      goal-free : {v : Bool} → status .free ≡ v → free (P .waiting) (goalAt (P .waiting) p) ≡ v
       goal-free q = sym (look .free-is h) ∙ q
 
-      pub decide-held : seen .free ≡ false → (r : Refusal) → refusalOf r ≡ (28 asks false) .refusal → Decides (load .limit) shop P move p (Refused r)
-      decide-held f r z n = go (anyFree (P .waiting)) refl ∙ ap (λ (q : Questions.Refusal). refused (toldOf (P .waiting) q)) (sym z)
+      pub decide-held : status .free ≡ false → (r : Refusal) → refusalOf r ≡ (28 asks false) .refusal → Decides (load .limit) shop P move p (Refused r)
+      decide-held f r z n = go (anyFree (P .waiting)) refl ∙ ap (λ (q : Questions.Refusal). refused (withQuestion27 (P .waiting) q)) (sym z)
         where
           go : (v : Bool) → anyFree (P .waiting) ≡ v
-              → Run.stepped rules n P (record { move = move; place = p }) ≡ refused (toldOf (P .waiting) ((28 asks false) .refusal))
+              → Run.stepped rules n P (record { move = move; place = p }) ≡ refused (withQuestion27 (P .waiting) ((28 asks false) .refusal))
           go true q = step-28 rules n P move p inside m (move-is ∙ ap readOf e) q (goal-free f) ∙ rw q
           go false q = step-27 rules n P move p inside m (move-is ∙ ap readOf e) q ∙ rw q
 
-      module _ (f : seen .free ≡ true) {r : Refusal} (said : Answers shop order s (seen .goal .rows) load (knownOf m) r) where
-        faces : Faces shop order s (seen .goal .rows) (load .count) P p
+      module _ (f : status .free ≡ true) {r : Refusal} (said : Answers shop order s (status .goal .rows) load (knownOf m) r) where
+        faces : Faces shop order s (status .goal .rows) (load .count) P p
         unfolding waitingOf
         faces = record { state = look .state; formula = ap (λ (g : Network.Waiting). g .formula) (look .goal h); size = look .size }
 
-        pub decide-takes : load .limit ≤ mostWaiting → r .number ≡ 0 → Decides (load .limit) shop P move p (Takes m)
+        pub decide-takes : load .limit ≤ mostWaiting → r .number ≡ 0 → Decides (load .limit) shop P move p (Allowed m)
         decide-takes few z = record {
           inside = inside;
           known = read-known shop move actions methods a b reading reads e;
-          room = rw (look .size) (own-room shop order s (seen .goal .rows) (load .count) (load .limit) 0 p P faces few m
+          fits = rw (look .size) (own-room shop order s (status .goal .rows) (load .count) (load .limit) 0 p P faces few m
               (own-told rules 0 p P m (refusalOf r) (said 0 P p faces) .0 z));
           comes = λ n.
               own-takes rules n P move p inside m (move-is ∙ ap readOf e) (goal-free f)
@@ -135,7 +135,7 @@ module _ (shop order : List ℕ) (s : State) (goal : Span) (load : Load) where
   of-release e said = rw e said
 
   pub of-action : {m : Move} {k : ℕ} (rows : Part) {r : Refusal} → m ≡ Act k → ActionIn shop k rows
-      → OfAction shop order s rows goal r → Answers shop order s goal load (knownOf m) r
+      → ActionAnswers shop order s rows goal r → Answers shop order s goal load (knownOf m) r
   of-action {k = k} rows e is said = rw e (said k load is)
 
   pub of-method : {m : Move} {k : ℕ} {r : Refusal} → m ≡ Use k → Answers shop order s goal load (Run.use-method k) r
@@ -150,7 +150,7 @@ module _ {shop order table : List ℕ} {m : ℕ} {rows : MethodRows} (a : Method
   asked-needs = sym (sym is ∙ needs ∙ ap (allHold s) (a .needs))
 
   pub method-unable : v ≡ false → refusalOf r ≡ (30 asks false) .refusal → Answers shop order s goal load (Run.use-method m) r
-  method-unable e z n P p f = z ∙ sym (ap told (use-30 shop order s goal (load .count) (load .limit) n p P f m (asked-needs ∙ e)))
+  method-unable e z n P p f = z ∙ sym (ap answered (use-30 shop order s goal (load .count) (load .limit) n p P f m (asked-needs ∙ e)))
 
   module _ (yes : v ≡ true) (nodes : Nodes) (counted : (bs : List Bounds) → Walk table (rows .end .0) (rows .first .0) bs → NodesCounted (rows .end .0) bs nodes) {helps u : Bool}
       (said : helps ≡ relevant (literals Tag.wantedTrue Tag.wantedFalse (spanRows shop order (spanOf Of.Shop (nodes .last .0) (rows .end .0)))) (nodeOf (spanRows shop order goal) .formula))
@@ -161,15 +161,15 @@ module _ {shop order table : List ℕ} {m : ℕ} {rows : MethodRows} (a : Method
         sym (sym tells ∙ said ∙ ap (λ l. relevant l (nodeOf (spanRows shop order goal) .formula)) (sym (a .goal (i .0) (nodes .last .0) (i .1))))
 
     pub method-irrelevant : u ≡ false → refusalOf r ≡ (31 asks false) .refusal → Answers shop order s goal load (Run.use-method m) r
-    method-irrelevant e z n P p f = z ∙ sym (ap told (use-31 shop order s goal (load .count) (load .limit) n p P f m (asked-needs ∙ yes) (asked-goal ∙ e)))
+    method-irrelevant e z n P p f = z ∙ sym (ap answered (use-31 shop order s goal (load .count) (load .limit) n p P f m (asked-needs ∙ yes) (asked-goal ∙ e)))
 
     asked-size : {fits : Bool} → leb (load .count + nodes .count) (load .limit) ≡ fits → leb (load .count + length (networkOf (methodAt (domain shop) m))) (load .limit) ≡ fits
     asked-size h = ap (λ (k : ℕ). leb (load .count + k) (load .limit)) (method-size a ∙ sym (counted (a .bs) (a .walk) .number)) ∙ h
 
-    pub method-may : u ≡ true → leb (load .count + nodes .count) (load .limit) ≡ true → refusalOf r ≡ told passed → Answers shop order s goal load (Run.use-method m) r
+    pub method-may : u ≡ true → leb (load .count + nodes .count) (load .limit) ≡ true → refusalOf r ≡ answered passed → Answers shop order s goal load (Run.use-method m) r
     method-may e h z n P p f =
-        z ∙ sym (ap told (use-passed shop order s goal (load .count) (load .limit) n p P f m (asked-needs ∙ yes) (asked-goal ∙ e) (asked-size h)))
+        z ∙ sym (ap answered (use-passed shop order s goal (load .count) (load .limit) n p P f m (asked-needs ∙ yes) (asked-goal ∙ e) (asked-size h)))
 
     pub method-crowded : u ≡ true → leb (load .count + nodes .count) (load .limit) ≡ false → refusalOf r ≡ (32 asks false) .refusal → Answers shop order s goal load (Run.use-method m) r
     method-crowded e h z n P p f =
-        z ∙ sym (ap told (use-32 shop order s goal (load .count) (load .limit) n p P f m (asked-needs ∙ yes) (asked-goal ∙ e) (asked-size h)))
+        z ∙ sym (ap answered (use-32 shop order s goal (load .count) (load .limit) n p P f m (asked-needs ∙ yes) (asked-goal ∙ e) (asked-size h)))

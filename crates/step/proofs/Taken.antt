@@ -5,7 +5,7 @@ use mathlib.Core.Path.{_≡_, refl, sym, ap, subst, _∙_}
 use mathlib.Core.Logic.{_≢_}
 use mathlib.Core.List.{List}
 use Rattle.hgn.specs.Questions as Questions
-use Rattle.hgn.specs.Questions.{passed, told}
+use Rattle.hgn.specs.Questions.{passed, answered}
 use Rattle.hgn.specs.State.{State}
 use Rattle.hgn.specs.Network.{mostWaiting}
 use Rattle.hgn.specs.Run as Run
@@ -13,13 +13,13 @@ use Rattle.hgn.specs.Run.{Step, strict, stepped}
 use Rattle.hgn.specs.Shop.{domain}
 use Rattle.sheet_rows.specs.Refusals.{refusalOf}
 use Rattle.sheet_rows.specs.declared.refusal.Refusal.{Refusal}
-use Rattle.step.specs.Steps.{problemIn, Comes, Is}
-use Rattle.step.specs.Taking.{Kept, Going, Took}
+use Rattle.step.specs.Steps.{problemIn, Comes, IsStep}
+use Rattle.step.specs.Taking.{ValidGoals, Going, Took}
 use Rattle.step.specs.declared.moves.Move.{Move}
 use Rattle.step.specs.declared.problem.Problem.{Problem}
 use Rattle.step.specs.declared.problem.Stepped as Code
 use Rattle.step.specs.declared.questions.Decision.{Decision}
-use Rattle.step.specs.declared.questions.Decision.the-variants.{Refused, Takes}
+use Rattle.step.specs.declared.questions.Decision.the-variants.{Refused, Allowed}
 use Rattle.network.specs.Reaching.{ReachedAt}
 use Rattle.network.proofs.Reaching.{reached-next}
 use Rattle.step.proofs.Bodies.{refused-numbered}
@@ -28,30 +28,30 @@ use Rattle.step.proofs.TakenSteps.{within-most}
 -- The step in place, at the atoms and the words of the record `b`, left these.
 module _ (limit : ℕ) (shop order : List ℕ) (n : ℕ) (x : Step) (b : Problem) (d : Decision) (s : State) (ws : List ℕ)
     (took : Took limit shop order n x (b .atoms) (b .waiting) d s ws) where
-  pub step-refused : {q : Refusal} {r : Code.Stepped} → Kept shop order (b .waiting) → d ≡ Refused q → (r .refusal ≡ q) × (r .problem ≡ b)
-      → Is shop order (stepped (strict limit (domain shop)) n (problemIn shop order b) x) b r
-  step-refused {r = r} kept e t =
+  pub step-refused : {q : Refusal} {r : Code.Stepped} → ValidGoals shop order (b .waiting) → d ≡ Refused q → (r .refusal ≡ q) × (r .problem ≡ b)
+      → IsStep shop order (stepped (strict limit (domain shop)) n (problemIn shop order b) x) b r
+  step-refused {r = r} valid e t =
       let c = subst (λ (v : Decision). Took limit shop order n x (b .atoms) (b .waiting) v s ws) e took .0 in
       record {
         comes-to = subst (λ o. Comes shop order o r) (sym c) (ap refusalOf (t .0), refused-numbered (strict limit (domain shop)) n (problemIn shop order b) x _ c);
         unchanged = λ z. t .1;
-        kept = subst (λ (p : Problem). Kept shop order (p .waiting)) (sym (t .1)) kept;
+        valid = subst (λ (p : Problem). ValidGoals shop order (p .waiting)) (sym (t .1)) valid;
       }
 
-  pub step-taken : {m : Move} {r : Code.Stepped} → d ≡ Takes m → refusalOf (r .refusal) ≡ told passed → r .problem ≡ record { atoms = s; waiting = ws }
-      → Is shop order (stepped (strict limit (domain shop)) n (problemIn shop order b) x) b r
+  pub step-taken : {m : Move} {r : Code.Stepped} → d ≡ Allowed m → refusalOf (r .refusal) ≡ answered passed → r .problem ≡ record { atoms = s; waiting = ws }
+      → IsStep shop order (stepped (strict limit (domain shop)) n (problemIn shop order b) x) b r
   step-taken {r = r} e z p =
       let t = subst (λ (v : Decision). Took limit shop order n x (b .atoms) (b .waiting) v s ws) e took in
       record {
         comes-to = subst (λ o. Comes shop order o r) (sym (t .comes)) (z, ap (problemIn shop order) p);
         unchanged = λ y. absurd (y (ap (λ (q : Questions.Refusal). q .number) z));
-        kept = subst (λ (c : Problem). Kept shop order (c .waiting)) (sym p) (t .kept);
+        valid = subst (λ (c : Problem). ValidGoals shop order (c .waiting)) (sym p) (t .valid);
       }
 
 -- What holds of the record after a step, for the next: a step that is taken is counted, one that is refused isn't.
 module _ (limit : ℕ) (few : limit ≤ mostWaiting) {shop order : List ℕ} {n : ℕ} (x : Step) {b : Problem} {r : Code.Stepped}
     (going : Going shop order n (b .atoms) (b .waiting))
-    (is : Is shop order (stepped (strict limit (domain shop)) n (problemIn shop order b) x) b r) where
+    (is : IsStep shop order (stepped (strict limit (domain shop)) n (problemIn shop order b) x) b r) where
   pub going-taken : r .refusal .number ≡ 0 → Going shop order (n + 1) (r .problem .atoms) (r .problem .waiting)
   going-taken z = go (stepped (strict limit (domain shop)) n (problemIn shop order b) x) refl (is .comes-to)
     where
@@ -59,7 +59,7 @@ module _ (limit : ℕ) (few : limit ≤ mostWaiting) {shop order : List ℕ} {n 
           → Going shop order (n + 1) (r .problem .atoms) (r .problem .waiting)
       go (Run.refused q) e c = absurd (c .1 (sym (ap (λ (k : Questions.Refusal). k .number) (c .0)) ∙ z))
       go (Run.taken deed P) e c = record {
-        kept = is .kept;
+        valid = is .valid;
         reached =
             subst (λ (k : ℕ). ReachedAt shop order k (problemIn shop order (r .problem))) (sym (add-one n))
             (subst (ReachedAt shop order _) (sym (c .1)) (reached-next x (going .reached) (within-most shop few n _ x e)));

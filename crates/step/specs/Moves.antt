@@ -7,7 +7,7 @@ use Rattle.hgn.specs.Run.{firstMethod}
 use Rattle.step.specs.declared.moves.Move.{Move}
 use Rattle.step.specs.declared.moves.Move.the-variants.{Release, Act, Use}
 use Rattle.step.specs.declared.moves.Read.{Read}
-use Rattle.step.specs.declared.moves.Read.the-variants.{Is, Unreadable}
+use Rattle.step.specs.declared.moves.Read.the-variants.{Readable, Unreadable}
 
 abbrev pub knownOf : Move → Run.Move
 knownOf Release = Run.release
@@ -15,7 +15,7 @@ knownOf (Act k) = Run.act k
 knownOf (Use m) = Run.use-method m
 
 abbrev pub readOf : Read → Run.Move
-readOf (Is m) = knownOf m
+readOf (Readable m) = knownOf m
 readOf Unreadable = Run.unknown
 
 -- `Run.moveOf` for a domain with so many actions and methods.

@@ -3,10 +3,10 @@ use Prim.Native.Nat.{ℕ}
 use mathlib.Core.Path.{_≡_}
 use mathlib.Core.Logic.{_≢_}
 use mathlib.Core.List.{List}
-use Rattle.hgn.specs.Questions.{passed, told}
+use Rattle.hgn.specs.Questions.{passed, answered}
 use Rattle.hgn.specs.Run as Run
 use Rattle.sheet_rows.specs.Refusals.{refusalOf}
-use Rattle.step.specs.Taking.{problemWith, Kept}
+use Rattle.step.specs.Taking.{problemWith, ValidGoals}
 use Rattle.step.specs.declared.problem.Problem.{Problem}
 use Rattle.step.specs.declared.problem.Stepped as Code
 
@@ -17,10 +17,10 @@ problemIn shop order b = problemWith shop order (b .atoms) (b .waiting)
 -- The code's answer is the refusal, or none and the problem that a taken step leaves.
 abbrev pub Comes : List ℕ → List ℕ → Run.Stepped → Code.Stepped → Type 0
 Comes shop order (Run.refused q) r = (refusalOf (r .refusal) ≡ q) × (q .number ≢ 0)
-Comes shop order (Run.taken deed P) r = (refusalOf (r .refusal) ≡ told passed) × (problemIn shop order (r .problem) ≡ P)
+Comes shop order (Run.taken deed P) r = (refusalOf (r .refusal) ≡ answered passed) × (problemIn shop order (r .problem) ≡ P)
 
 -- The step comes to `o`; refused, the record is as it was; and its words are those of at most 64 goals, with their counts.
-pub record Is (shop order : List ℕ) (o : Run.Stepped) (b : Problem) (r : Code.Stepped) : Type 0 where
+pub record IsStep (shop order : List ℕ) (o : Run.Stepped) (b : Problem) (r : Code.Stepped) : Type 0 where
   pub comes-to : Comes shop order o r
   pub unchanged : r .refusal .number ≢ 0 → r .problem ≡ b
-  pub kept : Kept shop order (r .problem .waiting)
+  pub valid : ValidGoals shop order (r .problem .waiting)

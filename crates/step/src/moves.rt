@@ -25,7 +25,7 @@ pub struct Step {
 }
 
 pub enum Read {
-    Is(Move),
+    Readable(Move),
     Unreadable,
 }
 
@@ -38,14 +38,14 @@ impl Move {
         ensures { λ r. ⌜ readOf r ≡ moveRead number actions methods ⌝ }
     {
         if number == 0 {
-            return Read::Is(Move::Release);
+            return Read::Readable(Move::Release);
         }
         if number <= actions {
-            return Read::Is(Move::Act(number));
+            return Read::Readable(Move::Act(number));
         }
         if Self::FIRST_METHOD <= number {
             if number - Self::FIRST_METHOD < methods {
-                return Read::Is(Move::Use(number - Self::FIRST_METHOD));
+                return Read::Readable(Move::Use(number - Self::FIRST_METHOD));
             }
         }
         Read::Unreadable

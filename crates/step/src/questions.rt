@@ -2,7 +2,7 @@
 use crate::moves::Move;
 use crate::moves::Read;
 use crate::moves::Step;
-use network::goals::Seen;
+use network::goals::GoalStatus;
 use sheet_check::check::Shop;
 use sheet_check::rows::word;
 use sheet_index::index::Part;
@@ -23,13 +23,13 @@ ghost use Rattle.hgn.specs.Shop.{actionCount, methodCount};
 ghost use Rattle.step.specs.Moves.{Known, knownOf};
 ghost use Rattle.sheet_index.specs.Index.{Lies};
 ghost use Rattle.sheet_index.specs.Tables.{Indexed};
-ghost use Rattle.step.specs.Deciding.{OfAction, Answers, SeenIn, Decides};
+ghost use Rattle.step.specs.Deciding.{ActionAnswers, Answers, StatusIn, Decides};
 ghost use Rattle.hgn.specs.Network.{mostWaiting};
 
 // The first question that fails, or the move that may be taken.
 pub enum Decision {
     Refused(Refusal),
-    Takes(Move),
+    Allowed(Move),
 }
 
 // How many goals wait, and how many may wait after a method.
@@ -49,7 +49,7 @@ impl Load {
 }
 
 // The first no of an action's own questions at a goal, both by their rows: 30 where its needs do not hold, 31 where it is not relevant.
-fn of_action<'a>(
+fn action_refusal<'a>(
     shop: &'a [u16],
     order: &'a [u16],
     atoms: &[bool; Shop::MOST_ATOMS as usize],
@@ -57,10 +57,10 @@ fn of_action<'a>(
     goal: Span,
 ) -> Refusal
     requires { ⌜ Lies (now shop) rows ⌝ }
-    ensures { λ r. ⌜ OfAction (now (shop .entry)) (now (order .entry)) (now (atoms .entry)) rows goal r ⌝ }
+    ensures { λ r. ⌜ ActionAnswers (now (shop .entry)) (now (order .entry)) (now (atoms .entry)) rows goal r ⌝ }
 {
     if literals::all_hold(atoms, shop, rows, tag::NEEDS_TRUE, tag::NEEDS_FALSE) {
-        if parts::helps(shop, order, rows, tag::MAKES_TRUE, tag::MAKES_FALSE, goal) {
+        if parts::relevant_to(shop, order, rows, tag::MAKES_TRUE, tag::MAKES_FALSE, goal) {
             return Refusal::none();
         }
         return Refusal::by(31);
@@ -70,7 +70,7 @@ fn of_action<'a>(
 
 // The first no of a method's own questions at a goal by its rows: 30 where its needs do not hold, 31 where it is not relevant, 32 where
 // more goals would wait than may.
-fn of_method<'a>(
+fn method_refusal<'a>(
     shop: &'a [u16],
     order: &'a [u16],
     tables: &[u16],
@@ -88,7 +88,7 @@ fn of_method<'a>(
     if literals::all_hold(atoms, shop, head, tag::NEEDS_TRUE, tag::NEEDS_FALSE) {
         let nodes = operators::nodes_between(tables, rows.first, rows.end);
         let last = Part::of_shop(shop, nodes.last, rows.end);
-        if parts::helps(shop, order, last, tag::WANTED_TRUE, tag::WANTED_FALSE, goal) {
+        if parts::relevant_to(shop, order, last, tag::WANTED_TRUE, tag::WANTED_FALSE, goal) {
             if load.allows(nodes.count) {
                 return Refusal::none();
             }
@@ -100,7 +100,7 @@ fn of_method<'a>(
 }
 
 // A move's own questions, at a goal with these rows and under this load. For a release, does it hold? 29.
-pub fn of_move<'a>(
+pub fn move_refusal<'a>(
     shop: &'a [u16],
     order: &'a [u16],
     tables: &[u16],
@@ -122,9 +122,9 @@ pub fn of_move<'a>(
         }
         Move::Act(action) => {
             let rows = operators::action_part(shop, tables, action);
-            of_action(shop, order, atoms, rows, goal)
+            action_refusal(shop, order, atoms, rows, goal)
         }
-        Move::Use(method) => of_method(shop, order, tables, atoms, method, goal, load),
+        Move::Use(method) => method_refusal(shop, order, tables, atoms, method, goal, load),
     }
 }
 
@@ -135,26 +135,26 @@ pub fn decide<'a>(
     order: &'a [u16],
     tables: &[u16],
     atoms: &[bool; Shop::MOST_ATOMS as usize],
-    seen: Seen,
+    status: GoalStatus,
     load: Load,
     step: Step,
 ) -> Decision
     requires { ⌜ Indexed (now shop) (now order) (now tables) × (load .count ≤ mostWaiting) × (load .limit ≤ mostWaiting) ⌝ }
-    ensures { λ r. ⌜ ((P : Problem) → SeenIn (now (shop .entry)) (now (order .entry)) (now (atoms .entry)) (load .count) seen P (step .place .0)
+    ensures { λ r. ⌜ ((P : Problem) → StatusIn (now (shop .entry)) (now (order .entry)) (now (atoms .entry)) (load .count) status P (step .place .0)
         → Decides (load .limit) (now (shop .entry)) P (step .mv) (step .place .0) r) ⌝ }
 {
     if step.place.0 < load.count {
         let actions = word(shop, 1);
         let methods = word(shop, 2);
         let reading = Move::read(step.mv, actions, methods);
-        let Read::Is(known) = reading else {
+        let Read::Readable(known) = reading else {
             return Decision::Refused(Refusal::by(26));
         };
-        if seen.free {
-            let goal = seen.goal;
-            let refusal = of_move(shop, order, tables, atoms, known, goal.rows, load);
+        if status.free {
+            let goal = status.goal;
+            let refusal = move_refusal(shop, order, tables, atoms, known, goal.rows, load);
             if refusal.number == 0 {
-                return Decision::Takes(known);
+                return Decision::Allowed(known);
             }
             return Decision::Refused(refusal);
         }

@@ -12,7 +12,7 @@ ghost use Rattle.hgn.specs.Shop.{domain};
 ghost use Rattle.network.specs.Entries.{orderOrigin};
 ghost use Rattle.sheet_index.specs.Tables.{Indexed};
 ghost use Rattle.step.specs.Taking.{Going};
-ghost use Rattle.step.specs.Steps.{problemIn, Is};
+ghost use Rattle.step.specs.Steps.{problemIn, IsStep};
 
 // The questions 25 to 32 in their order, then the move: on copies of the atoms and of the goals' words, which are handed back in a record.
 // At most `limit` goals may wait after a method.
@@ -26,7 +26,7 @@ pub fn step<'a>(
 ) -> Stepped
     requires { ⌜ Indexed (now shop) (now order) (now tables) × (limit ≤ mostWaiting) ⌝ }
     requires { ⌜ Going (now shop) (now order) (step .number) (problem .atoms) (problem .waiting) × (step .number < orderOrigin) ⌝ }
-    ensures { λ r. ⌜ Is (now (shop .entry)) (now (order .entry))
+    ensures { λ r. ⌜ IsStep (now (shop .entry)) (now (order .entry))
         (stepped (strict limit (domain (now (shop .entry)))) (step .number) (problemIn (now (shop .entry)) (now (order .entry)) problem)
         (record { move = step .mv; place = step .place .0 })) problem r ⌝ }
 {
@@ -35,7 +35,7 @@ pub fn step<'a>(
     let decision = taking::take(shop, order, tables, &mut atoms, &mut waiting, step, limit);
     match decision {
         Decision::Refused(refusal) => Stepped::refused(refusal, problem),
-        Decision::Takes(known) => {
+        Decision::Allowed(known) => {
             let refusal = Refusal::none();
             Stepped {
                 refusal: refusal,

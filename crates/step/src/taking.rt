@@ -17,14 +17,14 @@ ghost use Rattle.hgn.specs.Network.{mostWaiting};
 ghost use Rattle.sheet_rows.specs.Refusals.{refusalOf};
 ghost use Rattle.sheet_index.specs.Tables.{Indexed};
 ghost use Rattle.network.specs.Entries.{orderOrigin};
-ghost use Rattle.step.specs.Deciding.{toldOf};
+ghost use Rattle.step.specs.Deciding.{withQuestion27};
 ghost use Rattle.network.specs.Goals.{listIn};
-ghost use Rattle.step.specs.Taking.{Kept, Going, MayApply, Applied, Took};
+ghost use Rattle.step.specs.Taking.{ValidGoals, Going, MayApply, Applied, Took};
 
 // What is told of a refusal: 27 for 28 where no waiting goal is free.
-fn told(waiting: &[u16; Goals::WORDS], refusal: Refusal) -> Refusal
-    requires { ⌜ ((shop order : List ℕ) × Kept shop order (now waiting)) ⌝ }
-    ensures { λ r. ⌜ ((shop order : List ℕ) → Kept shop order (now (waiting .entry)) → refusalOf r ≡ toldOf (listIn shop order (now (waiting .entry))) (refusalOf refusal)) ⌝ }
+fn with_question_27(waiting: &[u16; Goals::WORDS], refusal: Refusal) -> Refusal
+    requires { ⌜ ((shop order : List ℕ) × ValidGoals shop order (now waiting)) ⌝ }
+    ensures { λ r. ⌜ ((shop order : List ℕ) → ValidGoals shop order (now (waiting .entry)) → refusalOf r ≡ withQuestion27 (listIn shop order (now (waiting .entry))) (refusalOf refusal)) ⌝ }
 {
     if refusal.number == 28 {
         if goals::any_free(waiting) {
@@ -80,21 +80,21 @@ pub fn take<'a>(
         (now (atoms .entry)) (now (waiting .entry)) r (now (atoms .exit)) (now (waiting .exit)) ⌝ }
 {
     let place = step.place;
-    let seen = goals::look(waiting, place);
+    let status = goals::status_at(waiting, place);
     let load = Load {
         count: goals::count_of(waiting),
         limit: limit,
     };
-    let decision = questions::decide(shop, order, tables, atoms, seen, load, step);
+    let decision = questions::decide(shop, order, tables, atoms, status, load, step);
     match decision {
-        Decision::Refused(refusal) => Decision::Refused(told(waiting, refusal)),
-        Decision::Takes(known) => {
+        Decision::Refused(refusal) => Decision::Refused(with_question_27(waiting, refusal)),
+        Decision::Allowed(known) => {
             let choice = Choice {
                 mv: known,
                 place: place,
             };
             apply(shop, order, tables, atoms, waiting, step.number, choice);
-            Decision::Takes(known)
+            Decision::Allowed(known)
         }
     }
 }

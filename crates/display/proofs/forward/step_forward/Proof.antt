@@ -133,7 +133,7 @@ module _ {M : Type 1} (𝓤 : URA M) (H : Heap 𝓤) (A : Atoms 𝓤) (W : Given
       use0 W (raw (fact 𝓤 (Ready a h))) (factI 𝓤 (Ready a h) (emp 𝓤) few) $ use0 W (raw (fact 𝓤 Asked)) (factI 𝓤 Asked (emp 𝓤) (ok, omega arith)) $ done !
 
   abbrev Is-step : Code.Stepped → Type 0
-  Is-step r = Steps.Is (a .0 .now) (a .1 .0 .now) (steppedAt (a .0 .now) (a .1 .0 .now) (number a) (step-of a) h) h r
+  Is-step r = Steps.IsStep (a .0 .now) (a .1 .0 .now) (steppedAt (a .0 .now) (a .1 .0 .now) (number a) (step-of a) h) h r
 
   step-said : (r : Code.Stepped) → ent 𝓤 (ensured 𝓤 H A step.ended (step.clauses 𝓤 H A at-mem run) κs (to-step .0 .3) tt r) (fact 𝓤 (Is-step r))
   step-said r = exE 𝓤 _ (λ ws. snd∗ 𝓤 (sem 𝓤 H A (lasts step.ended κs (to-step .0 .3) ws)) (fact 𝓤 (Is-step r)))

@@ -7,9 +7,9 @@ use lib.ListN.{length, getD}
 use borrow.Author.Needs.{needs}
 use Rattle.hgn.specs.Network.{mostWaiting, Waiting, goalAt}
 use Rattle.network.specs.Entries.{waitingOf}
-use Rattle.network.specs.Pending.{listed}
+use Rattle.network.specs.Pending.{timesListed}
 use Rattle.network.specs.Goals.{pendingField, countIn, pendingIn, listIn, countsIn}
-use Rattle.network.proofs.Counted.{counted-enough}
+use Rattle.network.proofs.PendingCounts.{counted-enough}
 use Rattle.network.proofs.WaitingGoals.{Lowering, lowering-start, lowering-entry, lowering-more, lowering-none, lowering-done, list-length, list-at, count-at}
 use Rattle.network.proofs.goals.lower_counts.Statement.{statement}
 use Rattle.network.proofs.goals.lower_counts.Tie as tie
@@ -50,7 +50,7 @@ module _ (d : tie.After-start-of Inv-loop μ-loop) where
   list = listIn (start .args .shop .now) (start .args .order .now) ws
 
   -- How often it is listed after the one at the place is not more than it counts.
-  enough : listed (goalAt list at) (goalAt list p) ≤ pendingIn ws at
+  enough : timesListed (goalAt list at) (goalAt list p) ≤ pendingIn ws at
   enough =
       omega (
         arith,
@@ -70,10 +70,10 @@ module _ (c : tie.After-times-listed Inv-loop μ-loop) where
   abbrev first : tie.Start Inv-loop μ-loop
   first = start found
 
-  times : c .times-listed .result ≡ listed (goalAt (list found) (at found)) (goalAt (list found) (p found))
+  times : c .times-listed .result ≡ timesListed (goalAt (list found) (at found)) (goalAt (list found) (p found))
   times =
       c .times-listed .ensures
-      ∙ ap₂ {C = ℕ} listed
+      ∙ ap₂ {C = ℕ} timesListed
       (ap (waitingOf (first .args .shop .now) (first .args .order .now)) (c .before .entry-at2 .ensures ∙ lowering-entry _ _ _ _ _ _ (v found) (at found))
       ∙ sym (list-at (first .args .shop .now) (first .args .order .now) (ws found) (at found) (inside found)))
       (ap (waitingOf (first .args .shop .now) (first .args .order .now)) (turn found .before .before .before .entry-at .ensures)
@@ -122,7 +122,7 @@ lower-counts-spec =
     let v = turn d .loop .inv p e in
     let z : start d .args .place .0 ≡ p = omega (arith, e) in
     rw (c .less .ensures, d .start-of .ensures)
-    (lowering-more _ _ _ _ _ _ v (t .times-listed .result) _ refl (times t ∙ ap (λ (k : ℕ). listed (goalAt (list d) (at d)) (goalAt (list d) k)) z)
+    (lowering-more _ _ _ _ _ _ v (t .times-listed .result) _ refl (times t ∙ ap (λ (k : ℕ). timesListed (goalAt (list d) (at d)) (goalAt (list d) k)) z)
     (omega (arith, times t, enough d)) (omega (arith, inside d, few d, start d .pre .0 .size))))
     -- loop-less-2
     (λ c. search needs)
@@ -131,7 +131,7 @@ lower-counts-spec =
     let d = c .before .before in
     let v = turn d .loop .inv p e in
     let z : start d .args .place .0 ≡ p = omega (arith, e) in
-    let none : 0 ≡ listed (goalAt (list d) (at d)) (goalAt (list d) (start d .args .place .0)) = omega (arith, c .if1 .left, enough d, pending-is d) in
-    lowering-none _ _ _ _ _ _ v (none ∙ ap (λ (k : ℕ). listed (goalAt (list d) (at d)) (goalAt (list d) k)) z) (omega (arith, inside d, few d, start d .pre .0 .size)))
+    let none : 0 ≡ timesListed (goalAt (list d) (at d)) (goalAt (list d) (start d .args .place .0)) = omega (arith, c .if1 .left, enough d, pending-is d) in
+    lowering-none _ _ _ _ _ _ v (none ∙ ap (λ (k : ℕ). timesListed (goalAt (list d) (at d)) (goalAt (list d) k)) z) (omega (arith, inside d, few d, start d .pre .0 .size)))
     -- returns
     (λ c. lowering-done _ _ _ _ _ _ (c .before .loop .inv _ refl) (c .loop-test .left)))

@@ -14,19 +14,19 @@ open-gap-spec =
     (λ c. search needs)
     -- mul-by
     (λ c. search needs)
-    -- sub-number
+    -- sub-words
     (λ c. search needs)
-    -- cast-number
+    -- cast-words
     (λ c. search needs)
-    -- mul-number
+    -- mul-words
     (λ c. search needs)
     -- start-of-requires
     (λ c κs. search needs)
-    -- raise-words-requires
+    -- shift-words-requires
     (λ c κs. let p = c .before .before .before .before .pre in (omega (arith, c .start-of .ensures, p .0 .few, p .1, p .2), p .0 .size))
     -- add-goals
     (λ c. search needs)
     -- element-write-goals
     (λ c. search needs)
     -- returns
-    (λ c. let p = c .before .before .before .before .before .pre in words-opened _ _ _ _ (p .0) (p .1) (p .2) (c .before .start-of .ensures) refl refl (c .raise-words .ensures)))
+    (λ c. let p = c .before .before .before .before .before .pre in words-opened _ _ _ _ (p .0) (p .1) (p .2) (c .before .start-of .ensures) refl refl (c .shift-words .ensures)))

@@ -12,7 +12,7 @@ use Rattle.network.proofs.listed.after_node.Tie as tie
 returns-3 : tie.Need-returns-3
 unfolding spanRows
 returns-3 c =
-    c .named .ensures
+    c .occurrences-of .ensures
     ∙ row-listed _ _ _ _ _ (c .before .before .before .before .if1 .left) (ap₂ {C = List Row} (λ (x y : List ℕ). zipWith row x y) (c .before .before .tags-of .ensures) (c .before .values-of .ensures))
 
 pub after-node-spec : {M : Type 1} → statement M

@@ -12,7 +12,7 @@ use Rattle.network.proofs.listed.in_network.Tie as tie
 returns-2 : tie.Need-returns-2
 unfolding spanRows
 returns-2 c =
-    c .afters .ensures
+    c .count-afters .ensures
     ∙ row-afters _ _ _ _ (c .before .before .before .before .if1 .left) (ap₂ {C = List Row} (λ (x y : List ℕ). zipWith row x y) (c .before .before .tags-of .ensures) (c .before .values-of .ensures))
 
 pub in-network-spec : {M : Type 1} → statement M

@@ -8,7 +8,7 @@ use borrow.Author.Needs.{needs}
 use Rattle.hgn.specs.Questions.{Refusal, passed}
 use Rattle.hgn.specs.Replay.{refusal}
 use Rattle.hgn.specs.Trace.{stepCount, checkTrace}
-use Rattle.hgn.proofs.Traces.{trace-sizes}
+use Rattle.hgn.proofs.Sheets.Trace.{trace-sizes}
 use Rattle.sheet_check.proofs.Lookup.{length-part}
 use Rattle.replay.specs.Answers.{actionMoves}
 use Rattle.replay.proofs.Calls.{sheet-refused, sheet-passes, room-short, run-stopped, run-accepted}

@@ -5,8 +5,8 @@ use borrow.Author.Needs.{needs}
 use Rattle.hgn.specs.State.{State}
 use Rattle.hgn.specs.Network.{Waiting}
 use Rattle.hgn.specs.Replay as Replay
-use Rattle.hgn.proofs.Checked.{order-of-trace}
-use Rattle.hgn.proofs.Traces.{trace-sizes}
+use Rattle.hgn.proofs.Sheets.Checked.{order-of-trace}
+use Rattle.hgn.proofs.Sheets.Trace.{trace-sizes}
 use Rattle.replay.specs.Answers.{runAnswer}
 use Rattle.replay.proofs.call.run_indexed.Statement.{statement}
 use Rattle.replay.proofs.call.run_indexed.Tie as tie

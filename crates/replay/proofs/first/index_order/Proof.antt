@@ -16,15 +16,15 @@ index-order-spec =
     (tie.spec
     -- layout-of-requires
     (λ c κs. search needs)
-    -- fill-requires
+    -- fill-tables-requires
     (λ c κs.
     let s = c .before .before .before .before .before in
     rw (c .before .layout-of .ensures .0) (order-indexable (s .args .shop .now) (s .args .order .now) (s .pre .0) (omega (arith, s .pre .1))))
     -- same-length
-    (λ c. c .before .before .fill .ensures .size)
+    (λ c. c .before .before .fill-tables .ensures .size)
     -- returns
     (λ c.
     let f = c .before .before in
     let s = f .before .before .before .before .before .before in
-    let filled = rw (f .before .before .layout-of .ensures .0) at (f .fill .ensures) in
-    (record { checked = s .pre .0; ends-are = filled .ends-are }, f .fill .ensures .size)))
+    let filled = rw (f .before .before .layout-of .ensures .0) at (f .fill-tables .ensures) in
+    (record { checked = s .pre .0; ends-are = filled .ends-are }, f .fill-tables .ensures .size)))

@@ -5,7 +5,7 @@ use mathlib.Core.Path.{_≡_, ap₂}
 use borrow.Author.Needs.{needs}
 use Rattle.hgn.specs.Questions.{passed}
 use Rattle.hgn.specs.Shop.{actionCount, methodCount, checkShop, shopRows}
-use Rattle.hgn.proofs.Checked.{shop-of-order, shop-actions, shop-methods, shop-counts}
+use Rattle.hgn.proofs.Sheets.Checked.{shop-of-order, shop-actions, shop-methods, shop-counts}
 use Rattle.sheet_index.proofs.Indexed.{shop-indexable}
 use Rattle.replay.proofs.first.index_shop.Statement.{statement}
 use Rattle.replay.proofs.first.index_shop.Tie as tie
@@ -36,7 +36,7 @@ index-shop-spec =
     (λ c. search needs)
     -- layout-of-requires
     (λ c κs. search needs)
-    -- fill-requires
+    -- fill-tables-requires
     (λ c κs.
     let o = c .before .before .before .before in
     let p = passes o in
@@ -44,10 +44,10 @@ index-shop-spec =
     (shop-indexable (start o .args .shop .now) p
     (omega (arith, shop-actions _ p, shop-methods _ p, shop-counts _ p .0, shop-counts _ p .1, start o .pre .1))))
     -- same-length
-    (λ c. c .before .before .fill .ensures .size)
+    (λ c. c .before .before .fill-tables .ensures .size)
     -- returns
     (λ c.
     let f = c .before .before in
     let o = f .before .before .before .before .before in
-    let filled = rw (f .before .before .layout-of .ensures .0, operators-are o) at (f .fill .ensures) in
+    let filled = rw (f .before .before .layout-of .ensures .0, operators-are o) at (f .fill-tables .ensures) in
     record { checked = start o .pre .0; ends-are = filled .ends-are; starts-are = filled .starts-are }))

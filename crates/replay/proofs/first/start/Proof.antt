@@ -5,7 +5,7 @@ use mathlib.Core.Bool.{Bool, true}
 use mathlib.Core.List.{List, zipWith}
 use borrow.Author.Needs.{needs}
 use Rattle.hgn.specs.Run.{startOf}
-use Rattle.hgn.specs.Rows.{Row, row, valuesOf}
+use Rattle.hgn.specs.Rows.{Row, row, valuesTagged}
 use Rattle.hgn.specs.Meaning.{orderOf}
 use Rattle.hgn.specs.Order as Order
 use Rattle.hgn.specs.State.{State, assign}
@@ -29,7 +29,7 @@ start-spec =
     (λ c.
     let s = c .before .before .before .before .before .before .before .before in
     c .assigned .ensures
-    ∙ ap₂ {C = List Bool} (λ (l : List Row) (a : State). assign true (valuesOf 12 l) a)
+    ∙ ap₂ {C = List Bool} (λ (l : List Row) (a : State). assign true (valuesTagged 12 l) a)
     (ap₂ (zipWith row) (c .before .before .before .before .tags-of .ensures) (c .before .before .before .values-of .ensures)
     ∙ ap (λ (n : ℕ). spanRows (s .args .shop .now) (s .args .order .now) (spanOf Of.Order 0 n)) (c .before .before .before .before .before .word .ensures)
     ∙ whole-rows (s .args .shop .now) (s .args .order .now) (s .pre))

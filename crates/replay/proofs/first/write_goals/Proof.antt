@@ -4,7 +4,7 @@ use native.Mathlib.Omega.{arith}
 use mathlib.Core.Path.{_≡_, refl, sym, subst, _∙_}
 use borrow.Author.Needs.{needs}
 use Rattle.hgn.specs.Order as Order
-use Rattle.hgn.proofs.Checked.{order-count, order-goals}
+use Rattle.hgn.proofs.Sheets.Checked.{order-count, order-goals}
 use Rattle.sheet_index.specs.Tables.{Walk}
 use Rattle.sheet_index.proofs.Indexed.{order-few}
 use Rattle.replay.proofs.Firsts.{GoalsAt, goals-read, goals-begun}

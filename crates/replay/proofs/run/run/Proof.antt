@@ -13,7 +13,7 @@ use Rattle.hgn.specs.Trace.{stepsOf, stepCount}
 use Rattle.hgn.specs.Replay.{rulesOf, refusal}
 use Rattle.step.specs.declared.moves.Move.{Move}
 use Rattle.step.specs.declared.questions.Decision.{Decision}
-use Rattle.step.specs.declared.questions.Decision.the-variants.{Takes}
+use Rattle.step.specs.declared.questions.Decision.the-variants.{Allowed}
 use Rattle.network.proofs.WaitingGoals.{list-length}
 use Rattle.step.specs.Taking.{problemWith, Going, TakenBy, Took}
 use Rattle.replay.proofs.Running.{Running, running-start}
@@ -84,7 +84,7 @@ module _ (v : tie.After-take Inv-loop μ-loop) where
   comes : Took mostWaiting shop order i (record { move = move; place = place }) s ws (v .take .result) s′ ws′
   comes = v .take .ensures
 
-  module _ (m : Move) (e : v .take .result ≡ Takes m) where
+  module _ (m : Move) (e : v .take .result ≡ Allowed m) where
     takes : TakenBy mostWaiting shop order i (record { move = move; place = place }) m s ws s′ ws′
     takes = subst (λ (d : Decision). Took mostWaiting shop order i (record { move = move; place = place }) s ws d s′ ws′) e comes
 

@@ -20,7 +20,7 @@ use Rattle.hgn.specs.Run.{Step, Problem, moved}
 use Rattle.hgn.specs.Search.{mostDepth}
 use Rattle.hgn.specs.Shop.{domain, actionCount, methodCount}
 use Rattle.hgn.specs.Replay.{rulesOf}
-use Rattle.hgn.proofs.Checked.{shop-actions, shop-methods, shop-counts}
+use Rattle.hgn.proofs.Sheets.Checked.{shop-actions, shop-methods, shop-counts}
 use Rattle.sheet_rows.proofs.Laws.{told}
 use Rattle.sheet_check.proofs.sizes.ShopSizes.of.Reads as of
 use Rattle.sheet_index.specs.Tables.{Indexed}
@@ -51,7 +51,7 @@ use Rattle.search.proofs.Exploring.{not-so, so, cannot-tell, ends-found
 use Rattle.search.proofs.found.Found.with.Reads as with
 use Rattle.search.proofs.found.Found.end.Reads as end
 use Rattle.search.proofs.found.Found.none.Reads as none-found
-use Rattle.search.proofs.found.Found.cut.Reads as cut
+use Rattle.search.proofs.found.Found.run_out.Reads as run-out
 use Rattle.search.proofs.trial.can_tell.Reads as can-tell
 use Rattle.search.proofs.trial.is_open.Reads as is-open
 use Rattle.search.proofs.trial.may_suffice.Reads as may-suffice
@@ -104,21 +104,21 @@ abbrev found-by : List ℕ → Problem → Problem → Node → ℕ → Step →
 found-by shop P₀ P node k = tried (k - 1) (rulesOf shop) P₀ (stepOf (node .last)) (node .number) P
 
 abbrev Inv-moves : moves-lts.InvT-loop
-Inv-moves shop order tables table atoms goals s₀ ws₀ node place sizes all count last left cuts₀ i₀ cuts i =
+Inv-moves shop order tables table atoms goals s₀ ws₀ node place sizes all count last left exhausted₀ i₀ exhausted i =
     let F = found-by shop (problemWith shop order s₀ ws₀) (problemWith shop order atoms goals) node in
-    ((k : ℕ) → Covers cuts (node .left) k → movesFrom (F k) (domain shop) (place .0) 0 ≡ movesFrom (F k) (domain shop) (place .0) i) × (i ≤ all + 1)
+    ((k : ℕ) → Covers exhausted (node .left) k → movesFrom (F k) (domain shop) (place .0) 0 ≡ movesFrom (F k) (domain shop) (place .0) i) × (i ≤ all + 1)
 
 abbrev ν-moves : moves-lts.MeasureT-loop
-ν-moves shop order tables table atoms goals s₀ ws₀ node place sizes all count last left cuts₀ i₀ cuts i = all + 1 - i
+ν-moves shop order tables table atoms goals s₀ ws₀ node place sizes all count last left exhausted₀ i₀ exhausted i = all + 1 - i
 
 abbrev Inv-places : places-lts.InvT-loop
-Inv-places shop order tables table atoms goals s₀ ws₀ node count left last cuts₀ i₀ cuts i =
+Inv-places shop order tables table atoms goals s₀ ws₀ node count left last exhausted₀ i₀ exhausted i =
     let P = problemWith shop order atoms goals in
     let F = found-by shop (problemWith shop order s₀ ws₀) P node in
-    ((k : ℕ) → Covers cuts (node .left) k → placesFrom (F k) (domain shop) (P .waiting) 0 ≡ placesFrom (F k) (domain shop) (P .waiting) i) × (i ≤ count)
+    ((k : ℕ) → Covers exhausted (node .left) k → placesFrom (F k) (domain shop) (P .waiting) 0 ≡ placesFrom (F k) (domain shop) (P .waiting) i) × (i ≤ count)
 
 abbrev ν-places : places-lts.MeasureT-loop
-ν-places shop order tables table atoms goals s₀ ws₀ node count left last cuts₀ i₀ cuts i = count - i
+ν-places shop order tables table atoms goals s₀ ws₀ node count left last exhausted₀ i₀ exhausted i = count - i
 
 -- What the callees of each promise.
 abbrev follow-claims : ℕ → follow-lts.Claims
@@ -127,8 +127,8 @@ follow-claims t = (
   count-of.Learnt,
   crowded.Asked,
   crowded.Learnt,
-  cut.Asked,
-  cut.Learnt,
+  run-out.Asked,
+  run-out.Learnt,
   apply.Asked,
   apply.Learnt,
   may-suffice.Asked,
@@ -165,8 +165,8 @@ places-claims t = (
   count-of.Learnt,
   end.Asked,
   end.Learnt,
-  cut.Asked,
-  cut.Learnt,
+  run-out.Asked,
+  run-out.Learnt,
   is-free.Asked,
   is-free.Learnt,
   moves-below t,
@@ -241,14 +241,14 @@ module _ {t : ℕ} where
         (subst (λ (Q : Problem). Suffices (follow-begun .args .shop .now) Q (follow-begun .args .node .left - 1) r) (applied .leaves) e)
 
     -- The search goes on from there.
-    next-stands : {cuts : ℕ} → Stands (follow-begun .args .shop .now) (follow-begun .args .order .now) next-atoms next-goals (follow-begun .args .goals .now)
-        (record { last = follow-begun .args .choice; left = follow-begun .args .node .left - 1; number = follow-begun .args .node .number + 1; cuts = cuts })
+    next-stands : {exhausted : ℕ} → Stands (follow-begun .args .shop .now) (follow-begun .args .order .now) next-atoms next-goals (follow-begun .args .goals .now)
+        (record { last = follow-begun .args .choice; left = follow-begun .args .node .left - 1; number = follow-begun .args .node .number + 1; exhausted = exhausted })
     next-stands =
         let s = follow-begun in
         let o = some-open s .taken .taking in
         record {
           going = going-next (omega arith) (follow-going s) (taken-by _ _ _ _ _ (s .args .choice) o applied);
-          before = follow-going s .kept;
+          before = follow-going s .valid;
           last-inside = λ h. omega (arith, o .inside, follow-size s);
           last-known = o .known;
           fits = omega (arith, follow-fits s, follow-more s);
@@ -339,7 +339,7 @@ module _ {t : ℕ} where
     Told-open v = Opens (moves-shop begun) (moves-before begun) (stepOf (begun .args .node .last)) (moves-problem begun) choice v
 
     -- Nothing is found with the move at a length that is covered, or this is.
-    move-past : (k : ℕ) → Covers (looped .loop .cuts) (begun .args .node .left) k → moves-by begun k (stepOf choice) ≡ none
+    move-past : (k : ℕ) → Covers (looped .loop .exhausted) (begun .args .node .left) k → moves-by begun k (stepOf choice) ≡ none
         → movesFrom (moves-by begun k) (domain (moves-shop begun)) (begun .args .place .0) 0
         ≡ movesFrom (moves-by begun k) (domain (moves-shop begun)) (begun .args .place .0) (looped .loop .i + 1)
     move-past k v e =
@@ -396,7 +396,7 @@ module _ {t : ℕ} where
     more = omega (arith, l .before .before .if1 .left)
 
     -- The search of a covered length is what is found from the place of this turn on.
-    from-here : (k : ℕ) → Covers (l .loop .cuts) (places-begun .args .node .left) k → searched-by places-begun k ≡ from-place places-begun k (l .loop .i)
+    from-here : (k : ℕ) → Covers (l .loop .exhausted) (places-begun .args .node .left) k → searched-by places-begun k ≡ from-place places-begun k (l .loop .i)
     from-here k v =
         let s = places-begun in
         all-places (rulesOf (s .args .shop .now)) (places-before s) (stepOf (s .args .node .last)) k (s .args .node .number) (places-problem s)
@@ -417,14 +417,14 @@ module _ {t : ℕ} where
     free-is : {r v : Bool} → r ≡ eqb (pendingIn (here .args .goals .now) at-place) 0 → r ≡ v
         → free (places-problem here .waiting) (goalAt (places-problem here .waiting) at-place) ≡ v
     free-is e f =
-        let k = places-stands here .going .kept in
+        let k = places-stands here .going .valid in
         sym (free-at (here .args .shop .now) (here .args .order .now) (here .args .goals .now) (k .within) (k .counted) at-place inside) ∙ told e f
 
     -- The moves at the place of this turn find nothing with so many steps, or this.
     abbrev Moves-find : ℕ → Option (List Step) → Type 0
     Moves-find k o = movesFrom (places-by here k) (domain (here .args .shop .now)) at-place 0 ≡ o
 
-    past : (k : ℕ) → Covers (c .before .loop .cuts) (here .args .node .left) k → Moves-find k none → from-place here k 0 ≡ from-place here k (at-place + 1)
+    past : (k : ℕ) → Covers (c .before .loop .exhausted) (here .args .node .left) k → Moves-find k none → from-place here k 0 ≡ from-place here k (at-place + 1)
     past k v e =
         c .before .loop .inv .0 k v
         ∙ place-past (places-by here k) (domain (here .args .shop .now)) (places-problem here .waiting) at-place (rw (size here) inside) e
@@ -445,14 +445,14 @@ pub +follow+moves+places-spec : {M : Type 1} → statement M
     (λ c κs. search needs)
     -- crowded-requires
     (λ c κs. let s = c .before .before .before .before .before in omega (arith, follow-fits s))
-    -- cut-requires
+    -- run-out-requires
     (λ c κs. search needs)
     -- returns: more goals wait than steps are left
     (λ c P₀ y o.
     let s = c .before .before .before .before .before .before .before .before in
     follow-crowded (follow-ix s) (s .args .choice) o (s .args .node .number) (s .args .node .left) (follow-more s)
     (ap (λ (n : ℕ). isCrowded (s .args .node .left - 1) n (knownOf (s .args .choice .mv))) (follow-size s ∙ sym (c .before .before .before .count-of .ensures))
-    ∙ told (c .before .before .crowded .ensures) (c .before .if1 .taken)) (c .cut .result) (c .cut .ensures .0) (c .cut .ensures .1))
+    ∙ told (c .before .before .crowded .ensures) (c .before .if1 .taken)) (c .run-out .result) (c .run-out .ensures .0) (c .run-out .ensures .1))
     -- apply-requires
     (λ c κs.
     let s = c .before .before .before .before .before .before .before .before .before .before .before in
@@ -460,15 +460,16 @@ pub +follow+moves+places-spec : {M : Type 1} → statement M
     -- add-t17
     (λ c. let s = follow-begun c in omega (arith, follow-fits s))
     -- may-suffice-requires
-    (λ c κs. let v = c .before .before in (follow-lent (follow-begun v), applied v .kept .within))
-    -- cut-requires-2
+    (λ c κs. let v = c .before .before in (follow-lent (follow-begun v), applied v .valid .within))
+    -- run-out-requires-2
     (λ c κs. search needs)
     -- returns-2: the steps left do not suffice
     (λ c P₀ y o.
     let v = c .before .before .before .before .before in
     let s = follow-begun v in
     follow-short (follow-ix s) (s .args .choice) o (s .args .node .number) (s .args .node .left) (follow-more s)
-    (suffices-is v (c .before .before .may-suffice .result) (c .before .before .may-suffice .ensures) (not-so _ (c .before .if2 .taken))) (c .cut2 .result) (c .cut2 .ensures .0) (c .cut2 .ensures .1))
+    (suffices-is v (c .before .before .may-suffice .result) (c .before .before .may-suffice .ensures) (not-so _ (c .before .if2 .taken)))
+    (c .run-out2 .result) (c .run-out2 .ensures .0) (c .run-out2 .ensures .1))
     -- places-requires
     (λ c κs.
     let v = c .before .before .before .before .before .before in
@@ -516,7 +517,7 @@ pub +follow+moves+places-spec : {M : Type 1} → statement M
     let n = c .before .before in
     let s = begun n in
     let p = moves-stands s in (
-      (moves-ix s, p .going .kept, moves-inside s),
+      (moves-ix s, p .going .valid, moves-inside s),
       ((p .before, p .last-inside (omega (arith, moves-inside s))), ((p .last-known, known n), s .pre .1 .1 .1)),
     ))
     -- follow-requires
@@ -534,7 +535,7 @@ pub +follow+moves+places-spec : {M : Type 1} → statement M
     finds-some (c .before .follow .result) (c .if3 .taken) (move-gives n (c .before .follow .ensures _ _ o .found (c .if3 .taken))))
     -- loop-less
     (λ c. let n = c .before .before .before .before .before .before .before .before in omega (arith, n .before .loop-test .taken))
-    -- loop-again: none was, and a branch was cut
+    -- loop-again: none was, and a branch ran out of steps
     (λ c.
     let n = c .before .before .before .before .before .before .before .before in
     let o = subst (Told-open n) (c .before .before .before .before .if2 .taken) (c .before .before .before .before .before .is-open .ensures) in (
@@ -545,7 +546,7 @@ pub +follow+moves+places-spec : {M : Type 1} → statement M
     ))
     -- loop-less-2
     (λ c. let n = c .before .before .before .before .before .before .before .before in omega (arith, n .before .loop-test .taken))
-    -- loop-again-2: none was, and no branch was cut
+    -- loop-again-2: none was, and no branch ran out of steps
     (λ c.
     let n = c .before .before .before .before .before .before .before .before in
     let o = subst (Told-open n) (c .before .before .before .before .if2 .taken) (c .before .before .before .before .before .is-open .ensures) in (
@@ -561,7 +562,7 @@ pub +follow+moves+places-spec : {M : Type 1} → statement M
     ((λ k v. move-past n k v (o (k - 1) (begun n .args .node .number))), omega (arith, n .before .loop-test .taken)))
     -- loop-less-4
     (λ c. let n = c .before .before in omega (arith, n .before .loop-test .taken))
-    -- loop-again-4: more goals wait than steps are left, and a branch was cut before
+    -- loop-again-4: more goals wait than steps are left, and a branch ran out of steps before
     (λ c.
     let n = c .before .before in
     let s = begun n in
@@ -596,21 +597,21 @@ pub +follow+moves+places-spec : {M : Type 1} → statement M
     (subst (λ (j : ℕ). searched-by s j ≡ some (stepsFrom (s .args .node .number) j (c .end .result))) (sym (c .before .before .if1 .taken))
     (ends-found (rulesOf (s .args .shop .now)) (places-before s) (stepOf (s .args .node .last)) (s .args .node .number) (places-problem s) (c .end .result)
     (size s ∙ sym (c .before .before .before .count-of .ensures) ∙ c .before .if2 .taken))))
-    -- cut-requires
+    -- run-out-requires
     (λ c κs. search needs)
     -- returns-2: no step is left, and something waits
     (λ c.
     let s = c .before .before .before .before .before .before .before in
-    finds-none (c .cut .result) (c .cut .ensures .0) λ k v.
-    ap {B = Option (List Step)} (searched-by s) (covers-own (c .cut .ensures .1) v ∙ c .before .before .if1 .taken)
+    finds-none (c .run-out .result) (c .run-out .ensures .0) λ k v.
+    ap {B = Option (List Step)} (searched-by s) (covers-own (c .run-out .ensures .1) v ∙ c .before .before .if1 .taken)
     ∙ ends-none (rulesOf (s .args .shop .now)) (places-before s) (stepOf (s .args .node .last)) (s .args .node .number) (places-problem s)
     (λ e. c .before .if2 .left (c .before .before .before .count-of .ensures ∙ sym (size s) ∙ e)))
     -- loop-holds
     (λ c. ((λ k v. refl), omega arith))
     -- add-i
-    (λ c. omega (arith, inside c, places-stands (here c) .going .kept .within .few))
+    (λ c. omega (arith, inside c, places-stands (here c) .going .valid .within .few))
     -- is-free-requires
-    (λ c κs. omega (arith, inside c, places-stands (here c) .going .kept .within .few))
+    (λ c κs. omega (arith, inside c, places-stands (here c) .going .valid .within .few))
     -- moves-requires
     (λ c κs.
     let n = c .before .before in
@@ -632,7 +633,7 @@ pub +follow+moves+places-spec : {M : Type 1} → statement M
     finds-some (c .before .moves .result) (c .if4 .taken) (gives n (c .before .moves .ensures .found (c .if4 .taken))))
     -- loop-less
     (λ c. let n = c .before .before .before .before .before .before in omega (arith, n .loop-test .taken))
-    -- loop-again: none was, and a branch was cut
+    -- loop-again: none was, and a branch ran out of steps
     (λ c.
     let n = c .before .before .before .before .before .before in (
       (λ k v. let e = covers-own (omega (arith, c .if5 .taken)) v in past n k (inl e) (c .before .before .before .moves .ensures .nothing (c .before .before .if4 .left) k (inl e))),
@@ -640,7 +641,7 @@ pub +follow+moves+places-spec : {M : Type 1} → statement M
     ))
     -- loop-less-2
     (λ c. let n = c .before .before .before .before .before .before in omega (arith, n .loop-test .taken))
-    -- loop-again-2: none was, and no branch was cut
+    -- loop-again-2: none was, and no branch ran out of steps
     (λ c.
     let n = c .before .before .before .before .before .before in (
       (λ k v. past n k v (c .before .before .before .moves .ensures .nothing (c .before .before .if4 .left) k (covers-all _ (c .if5 .left) v))),

@@ -40,7 +40,7 @@ module _ (v : tie.After-first Inv-loop μ-loop) where
   stands =
       let going = start .pre .1 .0 in
       subst (Stands (start .args .shop .now) (start .args .order .now) (start .args .atoms .now) (start .args .goals .now) (start .args .goals .now)) (sym (v .first .ensures))
-      (record { going = going; before = going .kept; last-inside = λ h. h; last-known = tt; fits = omega (arith, v .before .loop-test .taken, start .pre .1 .1) })
+      (record { going = going; before = going .valid; last-inside = λ h. h; last-known = tt; fits = omega (arith, v .before .loop-test .taken, start .pre .1 .1) })
 
 -- What the search of one length told.
 module _ (v : tie.After-places Inv-loop μ-loop) where
@@ -63,7 +63,7 @@ deepen-spec =
     Inv-loop
     μ-loop
     -- at-least-requires
-    (λ c κs. let s = c .before .before .before in (s .pre .0 .indexed, s .pre .0 .achievers, s .pre .1 .0 .kept .within))
+    (λ c κs. let s = c .before .before .before in (s .pre .0 .indexed, s .pre .0 .achievers, s .pre .1 .0 .valid .within))
     -- loop-holds
     (λ c. none-from _ _ _ (c .at-least .result) (λ k h. c .at-least .ensures k h _ _ 0))
     -- first-requires
@@ -77,7 +77,7 @@ deepen-spec =
     (found-first _ _ _ (l .left) (omega arith) (l .inv) (v .places .result) (finds-is _ (finds v)) (c .if1 .taken), omega arith))
     -- none-requires
     (λ c κs. search needs)
-    -- returns-2: no branch was cut
+    -- returns-2: no branch ran out of steps
     (λ c.
     let v = c .before .before .before .before in
     let l = c .before .before .before .before .before .before .before .loop in

@@ -23,13 +23,13 @@ search-indexed-spec =
     (λ c κs. let s = c .before .before .before .before .before .before in (s .pre .0 .0, (s .pre .1, c .before .before .empty .ensures .0 .size)))
     -- start-requires
     (λ c κs. c .before .before .before .before .before .before .before .before .before .pre .0 .0)
-    -- fill-requires
+    -- fill-table-requires
     (λ c κs. c .before .before .before .before .before .begun .ensures .0)
     -- deepen-requires
     (λ c κs.
     let g = c .before .before .before .before .before .before .before .before .before .before .before in
     let s = g .before .before .before .before .before .before .before in
-    (record { indexed = g .begun .ensures .0; achievers = c .before .before .before .before .before .fill .ensures }, (going-first _ (g .begun .ensures .1), s .pre .0 .1)))
+    (record { indexed = g .begun .ensures .0; achievers = c .before .before .before .before .before .fill-table .ensures }, (going-first _ (g .begun .ensures .1), s .pre .0 .1)))
     -- same-length
     (λ c. search needs)
     -- returns

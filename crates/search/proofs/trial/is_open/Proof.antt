@@ -15,12 +15,12 @@ is-open-spec =
     (tie.spec
     -- may-take-requires
     (λ c κs. let s = c .before .before .before in ((s .pre .0 .0, s .pre .0 .1 .within, s .pre .0 .2, s .pre .1 .1 .0 .1), s .pre .1 .1 .1))
-    -- could-go-first-requires
+    -- commutes-with-last-requires
     (λ c κs. let s = c .before .before .before .before .before in ((s .pre .0 .0, s .pre .1 .0 .0, s .pre .1 .0 .1), s .pre .1 .1 .0))
     -- returns: it could go before the last step
     (λ c.
     let s = c .before .before .before .before .before .before .before in
-    closed-first (s .pre .0 .0) _ _ _ (s .args .choice) (s .pre .1 .1 .0 .1) (told (c .before .could-go-first .ensures) (c .if2 .taken)))
+    closed-first (s .pre .0 .0) _ _ _ (s .args .choice) (s .pre .1 .1 .0 .1) (told (c .before .commutes-with-last .ensures) (c .if2 .taken)))
     -- lower-too-requires
     (λ c κs. let s = c .before .before .before .before .before .before .before in ((s .pre .0 .0, s .pre .1 .1 .0 .1), (s .pre .0 .1, omega (arith, s .pre .0 .2))))
     -- returns-2: a lower free goal has the action relevant too
@@ -35,7 +35,7 @@ is-open-spec =
       taken = subst (MayTake (a .shop .now) (problemWith (a .shop .now) (a .order .now) (a .atoms .now) (a .goals .now)) (a .choice)) (c .before .before .before .before .if1 .taken)
           (c .before .before .before .before .before .may-take .ensures);
       lowest = told (c .before .lower-too .ensures) (c .if3 .left);
-      in-order = told (c .before .before .before .could-go-first .ensures) (c .before .before .if2 .left);
+      in-order = told (c .before .before .before .commutes-with-last .ensures) (c .before .before .if2 .left);
     })
     -- returns-4: it may not be taken
     (λ c.

@@ -1,6 +1,6 @@
 -- Where the table names an action, it is the literal's only achiever; where it has 0, there is none. Assumes nothing.
 use borrow.Author.Needs.{needs}
-use Rattle.search_bound.proofs.Gathering.{achiever-added, achiever-none}
+use Rattle.search_bound.proofs.NeededMoves.{achiever-added, achiever-none}
 use Rattle.search_bound.proofs.least.add_achiever.Statement.{statement}
 use Rattle.search_bound.proofs.least.add_achiever.Tie as tie
 

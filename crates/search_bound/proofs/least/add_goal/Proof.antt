@@ -2,7 +2,7 @@
 use borrow.Author.Needs.{needs}
 use Rattle.hgn.specs.Meaning.{nodeOf}
 use Rattle.hgn.specs.Replay.{rulesOf}
-use Rattle.search_bound.specs.Gathered.{WantedFormula}
+use Rattle.search_bound.specs.NeededMoves.{WantedFormula}
 use Rattle.search_bound.proofs.Wants.{span-rows, alternative-wanted}
 use Rattle.search_bound.proofs.least.add_goal.Statement.{statement}
 use Rattle.search_bound.proofs.least.add_goal.Tie as tie

@@ -5,17 +5,17 @@ use mathlib.Core.Path.{refl}
 use borrow.Author.Needs.{needs}
 use Rattle.hgn.specs.Replay.{rulesOf}
 use Rattle.step.specs.Taking.{problemWith}
-use Rattle.search_bound.specs.Gathered.{WithGoals}
+use Rattle.search_bound.specs.NeededMoves.{WithGoals}
 use Rattle.search_bound.proofs.Wants.{entry-wanted}
 use Rattle.search_bound.proofs.least.add_goals.Statement.{statement}
 use Rattle.search_bound.proofs.least.add_goals.Tie as tie
 
 abbrev Inv-loop : tie.InvT-loop
-Inv-loop gathered₀ shop order atoms table actions goals count i₀ gathered i =
-    WithGoals (problemWith shop order atoms goals) table actions gathered₀ gathered
+Inv-loop moves₀ shop order atoms table actions goals count i₀ moves i =
+    WithGoals (problemWith shop order atoms goals) table actions moves₀ moves
 
 abbrev μ-loop : tie.MeasureT-loop
-μ-loop gathered₀ shop order atoms table actions goals count i₀ gathered i = count - i
+μ-loop moves₀ shop order atoms table actions goals count i₀ moves i = count - i
 
 pub add-goals-spec : {M : Type 1} → statement M
 add-goals-spec =

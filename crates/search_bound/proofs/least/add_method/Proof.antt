@@ -5,13 +5,13 @@ use mathlib.Core.Path.{ap, sym, subst, _∙_}
 use lib.ListN.{length, length-map}
 use borrow.Author.Needs.{needs}
 use Rattle.hgn.specs.Replay.{rulesOf}
-use Rattle.hgn.proofs.Checked.{shop-counts, shop-actions, shop-methods}
+use Rattle.hgn.proofs.Sheets.Checked.{shop-counts, shop-actions, shop-methods}
 use Rattle.sheet_index.specs.Tables.{nodeAt, MethodAt}
 use Rattle.sheet_index.proofs.Tables.{shop-passes}
 use Rattle.sheet_rows.specs.declared.position.Sheet.the-variants as Of
 use Rattle.search_theory.specs.Needed.{Needed}
 use Rattle.search_bound.specs.Tables.{ActionOf}
-use Rattle.search_bound.proofs.Gathering.{operator-below, method-added}
+use Rattle.search_bound.proofs.NeededMoves.{operator-below, method-added}
 use Rattle.search_bound.proofs.Brings.{method-needed}
 use Rattle.search_bound.proofs.least.add_method.Statement.{statement}
 use Rattle.search_bound.proofs.least.add_method.Tie as tie

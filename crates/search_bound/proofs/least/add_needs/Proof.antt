@@ -4,9 +4,9 @@ use borrow.Author.Needs.{needs}
 use Rattle.hgn.specs.Tag as Tag
 use Rattle.hgn.specs.Meaning.{literals}
 use Rattle.hgn.specs.Replay.{rulesOf}
-use Rattle.hgn.proofs.Checked.{shop-counts}
+use Rattle.hgn.proofs.Sheets.Checked.{shop-counts}
 use Rattle.sheet_index.proofs.Tables.{shop-passes}
-use Rattle.search_bound.specs.Gathered.{WantedAll}
+use Rattle.search_bound.specs.NeededMoves.{WantedAll}
 use Rattle.search_bound.proofs.Wants.{span-rows, operator-wanted}
 use Rattle.search_bound.proofs.least.add_needs.Statement.{statement}
 use Rattle.search_bound.proofs.least.add_needs.Tie as tie

@@ -5,22 +5,22 @@ use mathlib.Core.Path.{_∙_, sym, subst}
 use borrow.Author.Needs.{needs}
 use Rattle.hgn.specs.Run.{use-method}
 use Rattle.hgn.specs.Replay.{rulesOf}
-use Rattle.hgn.proofs.Checked.{shop-counts}
+use Rattle.hgn.proofs.Sheets.Checked.{shop-counts}
 use Rattle.sheet_index.proofs.Tables.{shop-passes}
 use Rattle.sheet_index.proofs.NodeWalks.{ahead}
 use Rattle.search_theory.specs.Needed.{Needed}
-use Rattle.search_bound.specs.Gathered.{OnwardFrom}
-use Rattle.search_bound.proofs.Gathering.{operator-method}
+use Rattle.search_bound.specs.NeededMoves.{OnwardFrom}
+use Rattle.search_bound.proofs.NeededMoves.{operator-method}
 use Rattle.search_bound.proofs.Brings.{NodesLeft, nodes-all, nodes-next, node-here, node-wanted}
 use Rattle.search_bound.proofs.least.add_nodes.Statement.{statement}
 use Rattle.search_bound.proofs.least.add_nodes.Tie as tie
 
 abbrev Inv-loop : tie.InvT-loop
-Inv-loop gathered₀ shop order tables atoms table operator actions stop row₀ gathered row =
-    NodesLeft shop order tables (operator - actions) stop row × OnwardFrom (rulesOf shop) atoms (use-method (operator - actions)) gathered₀ gathered
+Inv-loop moves₀ shop order tables atoms table operator actions stop row₀ moves row =
+    NodesLeft shop order tables (operator - actions) stop row × OnwardFrom (rulesOf shop) atoms (use-method (operator - actions)) moves₀ moves
 
 abbrev μ-loop : tie.MeasureT-loop
-μ-loop gathered₀ shop order tables atoms table operator actions stop row₀ gathered row = stop - row
+μ-loop moves₀ shop order tables atoms table operator actions stop row₀ moves row = stop - row
 
 pub add-nodes-spec : {M : Type 1} → statement M
 add-nodes-spec =

@@ -5,17 +5,17 @@ use mathlib.Core.List.{zipWith}
 use borrow.Author.Needs.{needs}
 use Rattle.hgn.specs.Rows.{row}
 use Rattle.hgn.specs.Meaning.{literals}
-use Rattle.search_bound.specs.Gathered.{WantedAll, WithAchievers}
-use Rattle.search_bound.proofs.Wants.{row-among}
+use Rattle.search_bound.specs.NeededMoves.{WantedAll, WithAchievers}
+use Rattle.search_bound.proofs.Wants.{row-elem}
 use Rattle.search_bound.proofs.least.add_rows.Statement.{statement}
 use Rattle.search_bound.proofs.least.add_rows.Tie as tie
 
 abbrev Inv-loop : tie.InvT-loop
-Inv-loop gathered₀ atoms table actions tags values signs n i₀ gathered i =
-    WithAchievers (WantedAll (literals (signs .positive) (signs .negative) (zipWith row tags values))) atoms table actions gathered₀ gathered
+Inv-loop moves₀ atoms table actions tags values signs n i₀ moves i =
+    WithAchievers (WantedAll (literals (signs .positive) (signs .negative) (zipWith row tags values))) atoms table actions moves₀ moves
 
 abbrev μ-loop : tie.MeasureT-loop
-μ-loop gathered₀ atoms table actions tags values signs n i₀ gathered i = n - i
+μ-loop moves₀ atoms table actions tags values signs n i₀ moves i = n - i
 
 pub add-rows-spec : {M : Type 1} → statement M
 add-rows-spec =
@@ -46,7 +46,7 @@ add-rows-spec =
     let l = c .before .before .before .before in
     let n = l .before .before .rows .ensures in
     c .add-row .ensures shop P is e o
-    (λ x m. h x (row-among _ _ _ _ _ (omega (arith, n, l .loop-test .taken)) (omega (arith, n, l .loop-test .taken)) x m))
+    (λ x m. h x (row-elem _ _ _ _ _ (omega (arith, n, l .loop-test .taken)) (omega (arith, n, l .loop-test .taken)) x m))
     (l .before .loop .inv shop P is e o h k))
     -- returns
     (λ c. c .before .loop .inv))

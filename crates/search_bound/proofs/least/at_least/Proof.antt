@@ -4,11 +4,11 @@ use native.Mathlib.Omega.{arith}
 use mathlib.Core.Path.{refl, sym, _∙_}
 use lib.ListN.{length-replicate}
 use borrow.Author.Needs.{needs}
-use Rattle.hgn.proofs.Checked.{shop-counts}
+use Rattle.hgn.proofs.Sheets.Checked.{shop-counts}
 use Rattle.sheet_index.proofs.Tables.{shop-passes}
 use Rattle.network.proofs.WaitingGoals.{list-length}
-use Rattle.search_bound.specs.Gathered.{gatheredWords}
-use Rattle.search_bound.proofs.Gathering.{nothing, least-found, least-none}
+use Rattle.search_bound.specs.NeededMoves.{neededWords}
+use Rattle.search_bound.proofs.NeededMoves.{nothing, least-found, least-none}
 use Rattle.search_bound.proofs.least.at_least.Statement.{statement}
 use Rattle.search_bound.proofs.least.at_least.Tie as tie
 
@@ -27,7 +27,7 @@ at-least-spec =
       (
         s .pre .2,
         c .before .add-goals .ensures _ (shop-counts _ (shop-passes (s .pre .0)) .0 ∙ sym (c .before .before .before .of .ensures .actions)) (s .pre .1)
-            (nothing _ _ _ (length-replicate {A = ℕ} gatheredWords 0) refl refl refl),
+            (nothing _ _ _ (length-replicate {A = ℕ} neededWords 0) refl refl refl),
       ),
     ))
     -- is-hopeless-requires

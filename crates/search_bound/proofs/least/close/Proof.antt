@@ -6,21 +6,21 @@ use borrow.Author.Needs.{needs}
 use Rattle.hgn.specs.Run.{Problem}
 use Rattle.hgn.specs.Shop.{domain}
 use Rattle.hgn.specs.Replay.{rulesOf}
-use Rattle.hgn.proofs.Checked.{shop-counts}
+use Rattle.hgn.proofs.Sheets.Checked.{shop-counts}
 use Rattle.sheet_index.proofs.Tables.{shop-passes}
 use Rattle.step.specs.Taking.{problemWith}
 use Rattle.search_theory.specs.Needed.{Needed}
 use Rattle.search_bound.specs.Tables.{OperatorOf}
-use Rattle.search_bound.specs.Gathered.{mostGathered, foundCount, moveOfOperator, Holds}
-use Rattle.search_bound.proofs.Gathering.{place-known, place-needed}
+use Rattle.search_bound.specs.NeededMoves.{mostNeeded, neededCount, moveOfOperator, Holds}
+use Rattle.search_bound.proofs.NeededMoves.{place-known, place-needed}
 use Rattle.search_bound.proofs.least.close.Statement.{statement}
 use Rattle.search_bound.proofs.least.close.Tie as tie
 
 abbrev Inv-loop : tie.InvT-loop
-Inv-loop gathered₀ shop order tables atoms table goals at₀ gathered at = Holds (rulesOf shop) (problemWith shop order atoms goals) gathered
+Inv-loop moves₀ shop order tables atoms table goals at₀ moves at = Holds (rulesOf shop) (problemWith shop order atoms goals) moves
 
 abbrev μ-loop : tie.MeasureT-loop
-μ-loop gathered₀ shop order tables atoms table goals at₀ gathered at = mostGathered - at
+μ-loop moves₀ shop order tables atoms table goals at₀ moves at = mostNeeded - at
 
 -- A turn: the operator at `at` is read.
 module _ (c : tie.After-operator-at Inv-loop μ-loop) where
@@ -33,7 +33,7 @@ module _ (c : tie.After-operator-at Inv-loop μ-loop) where
   abbrev problem : Problem
   problem = problemWith (start .args .shop .now) (start .args .order .now) (start .args .atoms .now) (start .args .goals .now)
 
-  inside : turn .loop .at < foundCount (turn .loop .gathered)
+  inside : turn .loop .at < neededCount (turn .loop .moves)
   inside = let i = c .before .before .before .before .before in omega (arith, i .if1 .taken, i .before .count-of .ensures)
 
   operator-of : OperatorOf (start .args .shop .now) (start .args .order .now) (start .args .tables .now) (start .args .table .now) (c .operator-at .result)

@@ -6,7 +6,7 @@ use mathlib.Core.List.{zipWith}
 use borrow.Author.Needs.{needs}
 use lib.ListN.{drop}
 use Rattle.hgn.specs.Rows.{row}
-use Rattle.hgn.proofs.Tests.{false-not-true}
+use Rattle.hgn.proofs.Logic.Tests.{false-not-true}
 use Rattle.state.proofs.Walks.{by-row, at-end}
 use Rattle.search_bound.proofs.Wants.{oneFrom, one-formula, one-begins, one-goes-on, one-not-yet, one-ends}
 use Rattle.search_bound.proofs.least.one_alternative.Statement.{statement}

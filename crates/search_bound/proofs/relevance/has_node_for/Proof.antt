@@ -31,17 +31,17 @@ has-node-for-spec =
     (λ c. ahead (c .before .loop-test .taken) (c .before .before .loop .inv .onward) .inside)
     -- of-shop-requires
     (λ c κs. search needs)
-    -- helps-requires
+    -- relevant-to-requires
     (λ c κs. search needs)
     -- returns
     (λ c bs w.
     let l = c .before .before .before .before in
-    looked-found (l .before .loop .inv) (l .loop-test .taken) (told (rw (c .before .before .of-shop .ensures) at (c .before .helps .ensures)) (c .if1 .taken)) w)
+    looked-found (l .before .loop .inv) (l .loop-test .taken) (told (rw (c .before .before .of-shop .ensures) at (c .before .relevant-to .ensures)) (c .if1 .taken)) w)
     -- loop-less
     (λ c. let l = c .before .before .before .before in let f = ahead (l .loop-test .taken) (l .before .loop .inv .onward) in omega (arith, f .grows, f .below))
     -- loop-again
     (λ c.
     let l = c .before .before .before .before in
-    looked-more (l .before .loop .inv) (l .loop-test .taken) (told (rw (c .before .before .of-shop .ensures) at (c .before .helps .ensures)) (c .if1 .left)))
+    looked-more (l .before .loop .inv) (l .loop-test .taken) (told (rw (c .before .before .of-shop .ensures) at (c .before .relevant-to .ensures)) (c .if1 .left)))
     -- returns-2
     (λ c bs w. looked-all (c .before .loop .inv) w (c .loop-test .left)))

@@ -35,7 +35,7 @@ wanted-by-spec =
     (λ c. refl)
     -- entry-at-requires
     (λ c κs. let s = c .before .before .before .before .before .before .before in omega (arith, c .loop-test .taken, c .before .before .count-of .ensures, s .pre .1 .few))
-    -- helps-requires
+    -- relevant-to-requires
     (λ c κs. c .before .before .before .before .before .action-part .ensures .lies)
     -- returns
     (λ c.
@@ -43,7 +43,7 @@ wanted-by-spec =
     let n = l .before .before in
     let s = n .before .before .before .before .before in
     goals-found _ _ _ _ _ (l .before .loop .inv) (omega (arith, l .loop-test .taken, n .count-of .ensures)) (c .before .before .before .entry-at .ensures)
-    (wanted-at _ _ _ _ (n .before .action-part .ensures) _ (c .before .helps .ensures) (c .if1 .taken)))
+    (wanted-at _ _ _ _ (n .before .action-part .ensures) _ (c .before .relevant-to .ensures) (c .if1 .taken)))
     -- add-i
     (λ c. search needs)
     -- loop-less
@@ -54,7 +54,7 @@ wanted-by-spec =
     let n = l .before .before in
     let s = n .before .before .before .before .before in
     goals-on _ _ _ _ _ (l .before .loop .inv) (omega (arith, l .loop-test .taken, n .count-of .ensures)) (c .before .before .before .entry-at .ensures)
-    (wanted-at _ _ _ _ (n .before .action-part .ensures) _ (c .before .helps .ensures) (c .if1 .left)))
+    (wanted-at _ _ _ _ (n .before .action-part .ensures) _ (c .before .relevant-to .ensures) (c .if1 .left)))
     -- returns-2
     (λ c.
     let s = c .before .before .before .before .before .before .before in

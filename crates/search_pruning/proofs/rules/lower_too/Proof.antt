@@ -15,5 +15,5 @@ lower-too-spec =
     (λ c. search needs)
     (λ c. lower-release _ (c .enum-told .given .1) _ _)
     (λ c.
-    lower-action (c .before .before .before .mv .given .1) (c .before .action-part .ensures) _ _ (c .helps-lower .ensures))
+    lower-action (c .before .before .before .mv .given .1) (c .before .action-part .ensures) _ _ (c .relevant-lower .ensures))
     (λ c. lower-method _ (c .before .mv2 .given .1) _ _))

@@ -2,7 +2,7 @@
 use native.Mathlib.Omega.{arith}
 use mathlib.Core.Path.{sym, ap, _∙_}
 use borrow.Author.Needs.{needs}
-use Rattle.hgn.specs.Questions.{told}
+use Rattle.hgn.specs.Questions.{answered}
 use Rattle.hgn.specs.Order.{orderRows}
 use Rattle.sheet_rows.proofs.Laws as Laws
 use Rattle.sheet_check.proofs.Checks.{order-short, order-sizes-no, order-length-no, order-rest, order-rows-few}
@@ -24,28 +24,28 @@ returns-2 c =
     let s = o .of .ensures in
     let yes = Laws.told (r .before .order-in-range .ensures _ _ (r .before .before .of2 .ensures) s) (r .if2 .taken) in
     c .order-end .ensures _ (rw (← s .atoms, ← s .rows, ← l .layout .ensures .1, ← l .layout .ensures .0) (c .before .scan .ensures)) s
-    ∙ ap told (sym (order-rest _ _ (o .before .if1 .left) yes (omega arith)))
+    ∙ ap answered (sym (order-rest _ _ (o .before .if1 .left) yes (omega arith)))
 
 returns-3 : tie.Need-returns-3
 returns-3 c =
     let r = c .before .before .before .before .before in
     let o = r .before .before .before in
     let yes = Laws.told (r .before .order-in-range .ensures _ _ (r .before .before .of2 .ensures) (o .of .ensures)) (r .if2 .taken) in
-    c .by2 .ensures ∙ ap told (sym (order-length-no _ _ (o .before .if1 .left) yes (λ e. c .before .if3 .left (omega arith))))
+    c .by2 .ensures ∙ ap answered (sym (order-length-no _ _ (o .before .if1 .left) yes (λ e. c .before .if3 .left (omega arith))))
 
 returns-4 : tie.Need-returns-4
 returns-4 c =
     let r = c .before .before in
     let o = r .before .before in
     let no = Laws.told (r .order-in-range .ensures _ _ (r .before .of2 .ensures) (o .of .ensures)) (c .before .if2 .left) in
-    c .by3 .ensures ∙ ap told (sym (order-sizes-no _ _ (o .before .if1 .left) no))
+    c .by3 .ensures ∙ ap answered (sym (order-sizes-no _ _ (o .before .if1 .left) no))
 
 pub ask-order-spec : {M : Type 1} → statement M
 ask-order-spec =
     tie.close
     (tie.spec
     (λ c κs. search needs)
-    (λ c. c .by .ensures ∙ ap told (sym (order-short _ _ (c .before .if1 .taken))))
+    (λ c. c .by .ensures ∙ ap answered (sym (order-short _ _ (c .before .if1 .taken))))
     (λ c κs. search needs)
     (λ c κs. search needs)
     (λ c κs. search needs)

@@ -5,7 +5,7 @@ use mathlib.Core.Path.{_≡_, refl, sym}
 use mathlib.Core.List.{zipWith}
 use borrow.Author.Needs.{needs}
 use lib.ListN.{length, drop}
-use Rattle.hgn.specs.Rows.{row, valuesOf}
+use Rattle.hgn.specs.Rows.{row, valuesTagged}
 use Rattle.hgn.specs.State.{assign}
 use Rattle.state.proofs.Walks.{by-row, at-end}
 use Rattle.state.proofs.ByRow.{assignedIn, assigned-first, assigned-other, assigned-none}
@@ -44,7 +44,7 @@ loop-again-3 c =
     )
 
 returns : tie.Need-returns Inv-loop μ-loop
-unfolding assign valuesOf
+unfolding assign valuesTagged
 returns c =
     sym (at-end (assignedIn _ _ _) _ _ _ _ (c .before .before .rows .ensures) (c .before .loop .inv .0) (c .loop-test .left) refl)
 

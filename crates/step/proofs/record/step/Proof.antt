@@ -25,7 +25,7 @@ step-spec =
     (λ c.
     let v = c .before .before .before .before in
     let s = v .before .before .before .before .before .before .before .before in
-    step-refused _ _ _ _ _ _ _ _ _ (v .take .ensures) (s .pre .1 .0 .kept) (c .before .before .decision .given .1) (c .refused .ensures))
+    step-refused _ _ _ _ _ _ _ _ _ (v .take .ensures) (s .pre .1 .0 .valid) (c .before .before .decision .given .1) (c .refused .ensures))
     -- returns-2
     (λ c.
     let v = c .before .before .before .before in

@@ -2,7 +2,7 @@
 use mathlib.Core.Path.{subst}
 use borrow.Author.Needs.{needs}
 use Rattle.hgn.specs.Shop.{domain}
-use Rattle.step.specs.Deciding.{Room}
+use Rattle.step.specs.Deciding.{WithinLimit}
 use Rattle.step.proofs.Actions.{known-action, known-method}
 use Rattle.network.specs.Goals.{countIn}
 use Rattle.step.proofs.TakenSteps.{applied-release, applied-action, applied-method}
@@ -19,7 +19,7 @@ apply-spec =
     (λ c κs.
     let s = c .before .before .before .before .before .before .before in
     let g = s .pre .0 .1 in
-    ((g .kept .within, s .pre .1 .inside, g .kept .counted), ((_, (_, g .reached)), s .pre .0 .0 .checked)))
+    ((g .valid .within, s .pre .1 .inside, g .valid .counted), ((_, (_, g .reached)), s .pre .0 .0 .checked)))
     -- enum-known-known
     (λ c. search needs)
     -- act-requires
@@ -35,19 +35,19 @@ apply-spec =
     let g = s .pre .0 .1 in (
       (s .pre .0 .0, known-method (s .pre .0 .0) (s .pre .1 .known) e, s .pre .0 .2),
       (
-        (g .kept .within, s .pre .1 .inside, subst (Room (domain (s .args .shop .now)) (countIn (s .args .waiting .now))) e (s .pre .1 .room)),
-        (((_, g .reached), g .kept .counted), s .pre .1 .is-free),
+        (g .valid .within, s .pre .1 .inside, subst (WithinLimit (domain (s .args .shop .now)) (countIn (s .args .waiting .now))) e (s .pre .1 .fits)),
+        (((_, g .reached), g .valid .counted), s .pre .1 .is-free),
       ),
     ))
     -- returns
     (λ c.
     let s = c .before .before .before .before .before .before .before .before in
-    applied-release _ _ _ _ (s .pre .0 .1 .kept) _ (s .args .choice) (c .before .before .enum-told .given .1) (c .leave .ensures))
+    applied-release _ _ _ _ (s .pre .0 .1 .valid) _ (s .args .choice) (c .before .before .enum-told .given .1) (c .leave .ensures))
     -- returns-2
     (λ c.
     let s = c .before .before .before .before .before .before .before .before .before in
-    applied-action _ _ _ _ (s .pre .0 .1 .kept) _ (s .args .choice) (c .before .before .before .known .given .1) (c .act .ensures))
+    applied-action _ _ _ _ (s .pre .0 .1 .valid) _ (s .args .choice) (c .before .before .before .known .given .1) (c .act .ensures))
     -- returns-3
     (λ c.
     let s = c .before .before .before .before .before .before .before .before .before in
-    applied-method _ _ _ _ (s .pre .0 .1 .kept) _ (s .args .choice) (c .before .before .before .known2 .given .1) (c .decompose .ensures)))
+    applied-method _ _ _ _ (s .pre .0 .1 .valid) _ (s .args .choice) (c .before .before .before .known2 .given .1) (c .decompose .ensures)))

@@ -5,11 +5,11 @@ use mathlib.Core.List.{List}
 use borrow.Author.Needs.{needs}
 use Rattle.hgn.specs.State.{State}
 use Rattle.hgn.specs.Run.{refused}
-use Rattle.step.specs.Deciding.{SeenIn, Taking, Decides}
+use Rattle.step.specs.Deciding.{StatusIn, StepAllowed, Decides}
 use Rattle.step.specs.declared.moves.Move.{Move}
-use Rattle.step.specs.declared.questions.Decision.the-variants.{Takes}
-use Rattle.step.specs.Taking.{problemWith, Kept}
-use Rattle.step.proofs.TakenSteps.{seen-at, taking-may, taken-by}
+use Rattle.step.specs.declared.questions.Decision.the-variants.{Allowed}
+use Rattle.step.specs.Taking.{problemWith, ValidGoals}
+use Rattle.step.proofs.TakenSteps.{status-at, taking-may, taken-by}
 use Rattle.step.proofs.taking.take.Statement.{statement}
 use Rattle.step.proofs.taking.take.Tie as tie
 
@@ -30,32 +30,32 @@ module _ (v : tie.After-decide) where
   abbrev ws : List ℕ
   ws = start .args .waiting .now
 
-  kept : Kept shop order ws
-  kept = start .pre .0 .1 .kept
+  valid : ValidGoals shop order ws
+  valid = start .pre .0 .1 .valid
 
-  seen : SeenIn shop order s (v .before .before .count-of .result) (v .before .before .before .before .look .result) (problemWith shop order s ws) (start .args .step .place .0)
-  seen = seen-at shop order s ws kept _ _ (v .before .before .count-of .ensures) (v .before .before .before .before .look .ensures)
+  status : StatusIn shop order s (v .before .before .count-of .result) (v .before .before .before .before .status-at .result) (problemWith shop order s ws) (start .args .step .place .0)
+  status = status-at shop order s ws valid _ _ (v .before .before .count-of .ensures) (v .before .before .before .before .status-at .ensures)
 
   decides : Decides (start .args .limit) shop (problemWith shop order s ws) (start .args .step .mv) (start .args .step .place .0) (v .decide .result)
-  decides = v .decide .ensures _ seen
+  decides = v .decide .ensures _ status
 
-  module _ (m : Move) (e : v .decide .result ≡ Takes m) where
-    takes : Taking (start .args .limit) shop (problemWith shop order s ws) (start .args .step .mv) (start .args .step .place .0) m
+  module _ (m : Move) (e : v .decide .result ≡ Allowed m) where
+    takes : StepAllowed (start .args .limit) shop (problemWith shop order s ws) (start .args .step .mv) (start .args .step .place .0) m
     takes = subst (Decides (start .args .limit) shop (problemWith shop order s ws) (start .args .step .mv) (start .args .step .place .0)) e decides
 
 pub take-spec : {M : Type 1} → statement M
 take-spec =
     tie.close
     (tie.spec
-    -- look-requires
-    (λ c κs. c .before .before .before .before .before .pre .0 .1 .kept .within)
+    -- status-at-requires
+    (λ c κs. c .before .before .before .before .before .pre .0 .1 .valid .within)
     -- count-of-requires
     (λ c κs. search needs)
     -- decide-requires
     (λ c κs. search needs)
     -- enum-known-decision
     (λ c. search needs)
-    -- told-requires
+    -- with-question-27-requires
     (λ c κs. search needs)
     -- enum-known-decision-2
     (λ c. search needs)
@@ -69,7 +69,7 @@ take-spec =
     let v = c .before .before .before .before .before in
     let q = subst (Decides (start v .args .limit) (shop v) (problemWith (shop v) (order v) (s v) (ws v)) (start v .args .step .mv) (start v .args .step .place .0))
     (c .before .before .before .decision .given .1) (decides v) in
-    (q (start v .args .step .number) ∙ ap refused (sym (c .told .ensures (shop v) (order v) (kept v))), refl, refl))
+    (q (start v .args .step .number) ∙ ap refused (sym (c .with-question-27 .ensures (shop v) (order v) (valid v))), refl, refl))
     -- returns-2
     (λ c.
     let v = c .before .before .before .before .before .before in

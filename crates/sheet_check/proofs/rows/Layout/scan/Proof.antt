@@ -4,23 +4,23 @@ use native.Mathlib.Omega.{arith}
 use mathlib.Core.Path.{sym, ap, _∙_}
 use borrow.Author.Needs.{needs}
 use Rattle.hgn.specs.Rows.{rowsOf}
-use Rattle.hgn.specs.Questions.{Refusal, told}
+use Rattle.hgn.specs.Questions.{Refusal, answered}
 use Rattle.sheet_rows.specs.Reading.{contextOf, positionOf, readingOf}
 use Rattle.sheet_rows.proofs.Laws.{same-next}
 use Rattle.sheet_rows.proofs.Laws as Laws
 use Rattle.sheet_rows.proofs.Groups.{going-on-passes}
-use Rattle.sheet_check.proofs.GoneOn.{going-on-counts}
+use Rattle.sheet_check.proofs.GroupCounts.{going-on-counts}
 use Rattle.sheet_check.proofs.Scans.{Going, going-start, read-next, read-refused, read-end}
 use Rattle.sheet_check.proofs.Counts.{within-small}
 use Rattle.sheet_check.proofs.rows.Layout.scan.Statement.{statement}
 use Rattle.sheet_check.proofs.rows.Layout.scan.Tie as tie
 
 abbrev Inv-loop : tie.InvT-loop
-Inv-loop self words sheet atoms rows position₀ tally₀ i₀ position tally i =
-    (i ≤ self .rows) × Going sheet atoms (rowsOf (self .sizes) (self .rows) words) i position tally
+Inv-loop self words sheet atoms rows position₀ counts₀ i₀ position counts i =
+    (i ≤ self .rows) × Going sheet atoms (rowsOf (self .sizes) (self .rows) words) i position counts
 
 abbrev μ-loop : tie.MeasureT-loop
-μ-loop self words sheet atoms rows position₀ tally₀ i₀ position tally i = self .rows - i
+μ-loop self words sheet atoms rows position₀ counts₀ i₀ position counts i = self .rows - i
 
 opening-requires : tie.Need-opening-requires Inv-loop μ-loop
 opening-requires c κs = search needs
@@ -46,8 +46,8 @@ value-requires c κs = omega arith
 goes-on-requires : tie.Need-goes-on-requires Inv-loop μ-loop
 goes-on-requires c κs = search needs
 
-gone-on-requires : tie.Need-gone-on-requires Inv-loop μ-loop
-gone-on-requires c κs = within-small _ _ (omega arith) (c .before .before .before .before .before .loop .inv .1 .counts)
+counted-in-group-requires : tie.Need-counted-in-group-requires Inv-loop μ-loop
+counted-in-group-requires c κs = within-small _ _ (omega arith) (c .before .before .before .before .before .loop .inv .1 .counts)
 
 above-requires : tie.Need-above-requires Inv-loop μ-loop
 above-requires c κs = search needs
@@ -66,7 +66,7 @@ loop-again c =
       read-next (a .sheet) (a .atoms) (a .self .sizes) (a .self .rows) (a .words .now) (b .before .before .before .before .before .pre .0) (b .before .loop .inv .1)
           (b .loop-test .taken) (v .before .tag .ensures) (v .value .ensures)
           (same-next (c .above .ensures) ∙ going-on-passes (a .atoms) (p .least) (p .nodes) _ (a .sheet) (contextOf (p .context)) _ on)
-          (c .before .gone-on .ensures ∙ going-on-counts (a .atoms) (p .least) (p .nodes) _ _ (contextOf (p .context)) _ on),
+          (c .before .counted-in-group .ensures ∙ going-on-counts (a .atoms) (p .least) (p .nodes) _ _ (contextOf (p .context)) _ on),
     )
 
 counted-requires : tie.Need-counted-requires Inv-loop μ-loop
@@ -112,9 +112,9 @@ returns c =
     (ap readingOf (sym (k .before .reading2 .given .1)) ∙ k .before .before .before .read .ensures) in
     let number = ap (λ (q : Refusal). q .number) (c .refused .ensures) in
     record {
-      refusal = c .refused .ensures ∙ sym (ap told (r .0));
+      refusal = c .refused .ensures ∙ sym (ap answered (r .0));
       position = λ e. absurd (omega (arith, r .1));
-      tally = λ e. absurd (omega (arith, r .1));
+      counts = λ e. absurd (omega (arith, r .1));
     }
 
 returns-2 : tie.Need-returns-2 Inv-loop μ-loop
@@ -124,9 +124,9 @@ returns-2 c =
     let a = s .args in
     let r = read-end (a .sheet) (a .atoms) (a .self .sizes) (a .self .rows) (a .words .now) (s .pre .0) (k .before .loop .inv .1) (k .loop-test .left) in
     record {
-      refusal = c .passed .ensures .0 ∙ sym (ap told (r .0));
+      refusal = c .passed .ensures .0 ∙ sym (ap answered (r .0));
       position = λ e. ap positionOf (c .passed .ensures .1) ∙ r .1;
-      tally = λ e. c .passed .ensures .2 ∙ r .2;
+      counts = λ e. c .passed .ensures .2 ∙ r .2;
     }
 
 pub scan-spec : {M : Type 1} → statement M
@@ -143,7 +143,7 @@ scan-spec =
     tag-requires
     value-requires
     goes-on-requires
-    gone-on-requires
+    counted-in-group-requires
     above-requires
     loop-less
     loop-again

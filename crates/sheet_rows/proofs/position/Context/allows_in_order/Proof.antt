@@ -1,12 +1,12 @@
 -- In each context the code asks for the tags of `orderFollow` there. Assumes nothing.
 use borrow.Author.Needs.{needs}
-use Rattle.hgn.specs.Lists.{among, any}
+use Rattle.hgn.specs.Lists.{elem, any}
 use Rattle.hgn.specs.Tag.{orderFollow}
 use Rattle.sheet_rows.proofs.position.Context.allows_in_order.Statement.{statement}
 use Rattle.sheet_rows.proofs.position.Context.allows_in_order.Tie as tie
 
 pub allows-in-order-spec : {M : Type 1} → statement M
-unfolding orderFollow among any
+unfolding orderFollow elem any
 allows-in-order-spec =
     tie.close
     (tie.spec

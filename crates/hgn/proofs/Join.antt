@@ -1,0 +1,9 @@
+-- The join of two orders, and demand 3.
+pub mod Goals
+pub mod Embedding
+pub mod Front
+pub mod Renaming
+pub mod Cut
+pub mod Counted
+pub mod Sheets
+pub mod Replays

@@ -1,0 +1,289 @@
+-- Demand 3 of replays: the replay on the join, and those of the two parts of a cut. Assumes nothing.
+use Prim.Native.Nat.{ℕ, _+_, _-_, _≤_, _<_}
+use native.Mathlib.Omega.{arith}
+use mathlib.Core.Path.{_≡_, refl, sym, ap, ap₂, _∙_}
+use mathlib.Core.Bool.{Bool, true, false}
+use mathlib.Core.Logic.{_↔_}
+use mathlib.Core.List.{List, _++_}
+use mathlib.Core.Option.{none}
+use lib.Dec.{eqb}
+use lib.ListN.{length, take, drop, replicate, length-append, length-map, length-replicate}
+use borrow.Author.Tests.{eqb-true, eqb-false}
+use Rattle.hgn.specs.Questions.{passed}
+use Rattle.hgn.specs.Meaning.{Order}
+use Rattle.hgn.specs.Rows.{mostRows}
+use Rattle.hgn.specs.State.{State, mostAtoms}
+use Rattle.hgn.specs.Network.{Waiting, goalsOf, enter, mostWaiting}
+use Rattle.hgn.specs.Network as Network
+use Rattle.hgn.specs.Run.{problemOf, problemFrom, startOf, limited, run}
+use Rattle.hgn.specs.Join.{raised, join}
+use Rattle.hgn.specs.Shop.{domain}
+use Rattle.hgn.specs.Order.{order, rowCount, checkOrder}
+use Rattle.hgn.specs.Trace.{stepCount, stepsOf, checkTrace}
+use Rattle.hgn.specs.Replay.{rulesOf, replay}
+use Rattle.hgn.specs.Demands.{Accepts, OnJoin, JoinRule, ReplayCall, Accepting, planIn, Whole, Parts, Counted, BothAccept, OneAfterOther, CutAt, JoinOfReplays, Demand3OfReplays}
+use Rattle.hgn.proofs.Logic.Tests.{strict-decided}
+use Rattle.hgn.proofs.Sheets.Passed.{TracePassed, trace-passed, passed-trace}
+use Rattle.hgn.proofs.Sheets.Checked.{order-of-trace, shop-of-order, order-goals, shop-actions}
+use Rattle.hgn.proofs.Network.Waiting.{length-enter, goals-length}
+use Rattle.hgn.proofs.Run.Costs.{cost-append}
+use Rattle.hgn.proofs.Run.Derivation.{RunsTo, derivation-runs, run-derives}
+use Rattle.hgn.proofs.Run.Limits.{wider-run}
+use Rattle.hgn.proofs.Join.Counted.{counted-start, counted-runs, runs-counted}
+use Rattle.hgn.proofs.Sheets.Trace.{frontOf, backOf, front-passes, front-steps, back-passes, back-steps, steps-length}
+use Rattle.hgn.proofs.Sheets.Starts.{from-state, last-fits}
+use Rattle.hgn.proofs.Join.Sheets.{joined}
+use Rattle.hgn.proofs.Run.Replay.{demand-2}
+use Rattle.hgn.proofs.Join.Cut.{demand-3}
+
+-- A replay on sheets that pass accepts exactly where its run does, with the run's results.
+module _ {shop sheet trace : List ℕ} (k : ReplayCall shop sheet trace) where
+  sheet-passes : checkOrder shop sheet ≡ passed
+  sheet-passes = order-of-trace shop sheet trace (k .inputs .0)
+
+  -- The run of the replay, told as a plan and a last state.
+  abbrev Ran : List ℕ → State → Type 0
+  Ran plan last = RunsTo (rulesOf shop) 0 (problemOf (order sheet)) (stepsOf trace) plan last
+
+  accepting-runs : Accepting k → (plan : List ℕ) × (last : State) × Ran plan last
+  accepting-runs e =
+      let h = demand-2 shop sheet trace (k .room) (k .result) (k .called) .accepts-iff .0 e .1 in
+      let b = shop-actions shop (shop-of-order shop sheet sheet-passes) in
+      (h .0, h .1, derivation-runs (rulesOf shop) (strict-decided mostWaiting (domain shop)) b (h .2) .1)
+
+  -- The replay accepts with this plan and this last state.
+  abbrev Gives : List ℕ → State → Type 0
+  Gives plan last = Accepts shop trace (k .room) plan last (k .result)
+
+  run-accepts : (plan : List ℕ) (last : State) → Ran plan last → Gives plan last
+  unfolding goalsOf
+  run-accepts plan last h =
+      demand-2 shop sheet trace (k .room) (k .result) (k .called) .results plan last (k .inputs)
+      (rw (h .plan-is)
+      (run-derives (rulesOf shop) (strict-decided mostWaiting (domain shop)) 0 _ (stepsOf trace) (h .deeds) last
+      (rw length-enter (order-goals shop sheet sheet-passes)) (h .runs)))
+
+  plan-is : (plan : List ℕ) (last : State) → Gives plan last → planIn k ≡ plan
+  plan-is plan last a = ap (λ (n : ℕ). take n (k .result .room)) (a .count) ∙ a .plan-words
+
+goals-of : (o p : Order) → o .goals ≡ p .goals → goalsOf o ≡ goalsOf p
+unfolding goalsOf
+goals-of o p e = ap (enter Network.from-order none 0) e
+
+join-length : (a b : Order) → length (join a b .goals) ≡ length (a .goals) + length (b .goals)
+unfolding join
+join-length a b = length-append (a .goals) _ ∙ ap (_+_ (length (a .goals))) (length-map (b .goals) (raised (length (a .goals))))
+
+module _ (shop first second trace : List ℕ)
+    (one : checkOrder shop first ≡ passed) (two : checkOrder shop second ≡ passed) (steps : TracePassed trace) where
+  rule : JoinRule (rulesOf shop) (order first) (order second) (stepsOf trace)
+  rule = demand-3 shop first second one two (rulesOf shop) refl (stepsOf trace)
+
+  few : length (order second .goals) ≤ mostWaiting
+  few = order-goals shop second two
+
+  others : ℕ
+  others = length (order second .goals)
+
+  -- The run of the replay of the back is the back's from the state that the front leaves.
+  back-run : {c : ℕ} (p : Parts shop first second trace c) → Accepting (p .front) → (s : State) → p .front .result .answer .state ≡ s
+      → run (rulesOf shop) 0 (problemOf (order (p .backOrder))) (stepsOf (p .backTrace))
+      ≡ run (rulesOf shop) 0 (problemFrom s (order second)) (drop c (stepsOf trace))
+  back-run p e s q =
+      ap₂ (λ (y : State) (w : List Waiting). run (rulesOf shop) 0 (record { state = y; waiting = w }) (stepsOf (p .backTrace)))
+      (p .backStart e ∙ q) (goals-of _ _ (p .backGoals))
+      ∙ ap (run (rulesOf shop) 0 (problemFrom s (order second))) (p .backSteps)
+
+  -- The replays of the parts of a cut accept with its results, the second's goals counted.
+  record Cutted {c : ℕ} (p : Parts shop first second trace c) (cut : CutAt shop first second trace c) : Type 0 where
+    front : Gives (p .front) (cut .frontPlan) (cut .between)
+    counted : Counted (length (order second .goals)) (rulesOf shop) (problemOf (order first)) (stepsOf (p .frontTrace))
+    back : Gives (p .back) (cut .backPlan) (cut .last)
+
+  cut-ran : {c : ℕ} (p : Parts shop first second trace c) (cut : CutAt shop first second trace c) → Cutted p cut
+  unfolding others
+  cut-ran p cut =
+      let e = ap (run (limited (mostWaiting - others) (rulesOf shop)) 0 (problemOf (order first))) (p .frontSteps) ∙ cut .front .runs in
+      let wide = wider-run (rulesOf shop) {small = mostWaiting - others} (omega arith) 0 _ _ _ _ e in
+      let front = run-accepts (p .front) (cut .frontPlan) (cut .between) (record { deeds = cut .front .deeds; runs = wide; plan-is = cut .front .plan-is }) in
+      record {
+        front = front;
+        counted = runs-counted others (rulesOf shop) few (problemOf (order first)) _ (_, _, e) (omega (arith, few, cut .front .within));
+        back =
+            run-accepts (p .back) (cut .backPlan) (cut .last) (record {
+              deeds = cut .back .deeds;
+              runs = back-run p (front .number) (cut .between) (front .state) ∙ cut .back .runs;
+              plan-is = cut .back .plan-is;
+            });
+      }
+
+  both-accept : {c : ℕ} (p : Parts shop first second trace c) (cut : CutAt shop first second trace c) → BothAccept p
+  both-accept p cut = let t = cut-ran p cut in record { front = t .front .number; counted = t .counted; back = t .back .number }
+
+  -- Parts that both accept are a cut.
+  parts-cut : {c : ℕ} (p : Parts shop first second trace c) → BothAccept p → CutAt shop first second trace c
+  unfolding others
+  parts-cut p b =
+      let f = accepting-runs (p .front) (b .front) in
+      let k = accepting-runs (p .back) (b .back) in
+      let a = run-accepts (p .front) (f .0) (f .1) (f .2) in
+      record {
+        inside = rw (steps-length trace steps) (p .inside);
+        frontPlan = f .0;
+        between = f .1;
+        front = record {
+          within = omega (arith, counted-start others (rulesOf shop) few (problemOf (order first)) _ (b .counted));
+          deeds = f .2 .deeds;
+          runs =
+              ap (run (limited (mostWaiting - others) (rulesOf shop)) 0 (problemOf (order first))) (sym (p .frontSteps))
+              ∙ counted-runs others (rulesOf shop) few (problemOf (order first)) _ (f .2 .deeds) (f .1) (b .counted) (f .2 .runs);
+          plan-is = f .2 .plan-is;
+        };
+        backPlan = k .0;
+        last = k .1;
+        back = record {
+          within = omega (arith, few, goals-length (order second));
+          deeds = k .2 .deeds;
+          runs = sym (back-run p (b .front) (f .1) (a .state)) ∙ k .2 .runs;
+          plan-is = k .2 .plan-is;
+        };
+      }
+
+  -- The replay on the join runs the join.
+  abbrev both : Order
+  both = join (order first) (order second)
+
+  module _ (k : Whole shop first second trace) where
+    same-run : run (rulesOf shop) 0 (problemOf (order (k .joined))) (stepsOf trace) ≡ run (rulesOf shop) 0 (problemOf both) (stepsOf trace)
+    same-run = ap (λ (o : Order). run (rulesOf shop) 0 (problemOf o) (stepsOf trace)) (k .means)
+
+    to-join : (plan : List ℕ) (last : State) → Ran (k .call) plan last → OnJoin (rulesOf shop) (order first) (order second) (stepsOf trace) plan last
+    to-join plan last h = record {
+      within = omega (arith, goals-length (order (k .joined)), order-goals shop (k .joined) (sheet-passes (k .call)), same-length);
+      deeds = h .deeds;
+      runs = sym same-run ∙ h .runs;
+      plan-is = h .plan-is;
+    }
+      where
+        same-length : length (goalsOf both) ≡ length (goalsOf (order (k .joined)))
+        same-length = ap (λ (o : Order). length (goalsOf o)) (sym (k .means))
+
+    from-join : (plan : List ℕ) (last : State) → OnJoin (rulesOf shop) (order first) (order second) (stepsOf trace) plan last → Ran (k .call) plan last
+    from-join plan last a = record { deeds = a .deeds; runs = same-run ∙ a .runs; plan-is = a .plan-is }
+
+  accepted-cut : (k : Whole shop first second trace) → Accepting (k .call) ↔ ((c : ℕ) × CutAt shop first second trace c)
+  accepted-cut k = (
+    (λ e. let t = accepting-runs (k .call) e in rule .accepted-iff .0 (t .0, t .1, to-join k (t .0) (t .1) (t .2))),
+    (λ h. let t = rule .accepted-iff .1 h in run-accepts (k .call) (t .0) (t .1) (from-join k (t .0) (t .1) (t .2)) .number),
+  )
+
+  one-after-other : (k : Whole shop first second trace) (c : ℕ) (p : Parts shop first second trace c) → BothAccept p → OneAfterOther k p
+  one-after-other k c p b =
+      let cut = parts-cut p b in
+      let t = cut-ran p cut in
+      let plan = cut .frontPlan ++ cut .backPlan in
+      let on = rule .results c cut plan (cut .last) .1 (refl, refl) in
+      let w = run-accepts (k .call) plan (cut .last) (from-join k plan (cut .last) on) in
+      record {
+        number = w .number;
+        place = w .place;
+        plan =
+            plan-is (k .call) plan (cut .last) w
+            ∙ ap₂ {C = List ℕ} _++_ (sym (plan-is (p .front) (cut .frontPlan) (cut .between) (t .front)))
+            (sym (plan-is (p .back) (cut .backPlan) (cut .last) (t .back)));
+        count = w .count ∙ length-append (cut .frontPlan) (cut .backPlan) ∙ ap₂ _+_ (sym (t .front .count)) (sym (t .back .count));
+        cost = w .cost ∙ cost-append (domain shop) (cut .frontPlan) (cut .backPlan) ∙ ap₂ _+_ (sym (t .front .cost)) (sym (t .back .cost));
+        state = w .state ∙ sym (t .back .state);
+      }
+
+  -- A sheet of more than 64 goals does not pass.
+  full : mostWaiting < length (order first .goals) + length (order second .goals)
+      → (joined : List ℕ) → order joined ≡ both → checkTrace shop joined trace ≡ passed → ⊥
+  full m joined means h =
+      let few = order-goals shop joined (order-of-trace shop joined trace h) in
+      omega (arith, ap (λ (o : Order). length (o .goals)) means, join-length (order first) (order second))
+
+  join-of-replays : JoinOfReplays shop first second trace
+  join-of-replays = record {
+    accepted-iff = λ k parts. (
+      (λ e.
+          let t = accepted-cut k .0 e in
+          let h : t .0 ≤ stepCount trace = rw⁻¹ (steps-length trace steps) (t .1 .inside) in
+          (t .0, h, both-accept (parts (t .0) h) (t .1))),
+      (λ b. accepted-cut k .1 (b .0, parts-cut (parts (b .0) (b .1)) (b .2))),
+    );
+    one-cut = λ c e p q b f. rule .one-cut c e (parts-cut p b) (parts-cut q f);
+    results = one-after-other;
+    cut-iff = λ c p. (parts-cut p, both-accept p);
+    accepted-cut = accepted-cut;
+    too-many = λ m. (
+      (λ joined room e means called zero. full m joined means (demand-2 shop joined trace room e called .accepts-iff .0 zero .0 .0)),
+      (λ c p b. rule .too-many m .1 c (parts-cut p b)),
+    );
+  }
+
+-- A replay on sheets that pass, with as much room as the trace has steps.
+call-of : (shop sheet trace : List ℕ) → checkOrder shop sheet ≡ passed → TracePassed trace → ReplayCall shop sheet trace
+call-of shop sheet trace h t =
+    let room : List ℕ = replicate (stepCount trace) 0 in
+    record {
+      room = room;
+      result = replay shop sheet trace room;
+      inputs = (passed-trace shop sheet trace h t, omega (arith, length-replicate {A = ℕ} (stepCount trace) 0));
+      called = refl;
+    }
+
+-- An order sheet with the second's goals, from the state that the replay leaves if it accepts.
+record Onwards {shop first trace : List ℕ} (second : List ℕ) (k : ReplayCall shop first trace) : Type 0 where
+  words : List ℕ
+  passes : checkOrder shop words ≡ passed
+  goals : order words .goals ≡ order second .goals
+  start : Accepting k → startOf (order words) ≡ k .result .answer .state
+
+onwards : (shop first second trace : List ℕ) (k : ReplayCall shop first trace)
+    → checkOrder shop first ≡ passed → checkOrder shop second ≡ passed → mostAtoms + rowCount second ≤ mostRows → Onwards second k
+onwards shop first second trace k one two few = go (eqb (k .result .answer .refusal .number) 0) refl
+  where
+    go : (b : Bool) → eqb (k .result .answer .refusal .number) 0 ≡ b → Onwards second k
+    go true e =
+        let d = demand-2 shop first trace (k .room) (k .result) (k .called) in
+        let h = d .accepts-iff .0 (eqb-true _ _ e) .1 in
+        let s = d .results (h .0) (h .1) (k .inputs) (h .2) .state in
+        let f = from-state shop second two few (h .1) (last-fits shop first one (h .2)) in
+        record { words = f .words; passes = f .passes; goals = f .goals; start = λ _. f .start ∙ sym s }
+    go false e = record { words = second; passes = two; goals = refl; start = λ z. absurd (eqb-false _ _ e z) }
+
+parts-are-there : (shop first second trace : List ℕ)
+    → checkOrder shop first ≡ passed → checkOrder shop second ≡ passed → TracePassed trace
+    → mostAtoms + rowCount second ≤ mostRows → (c : ℕ) → c ≤ stepCount trace → Parts shop first second trace c
+parts-are-there shop first second trace one two steps few c h =
+    let front = call-of shop first (frontOf c trace) one (front-passes trace steps c) in
+    let next = onwards shop first second (frontOf c trace) front one two few in
+    record {
+      inside = h;
+      frontTrace = frontOf c trace;
+      frontSteps = front-steps trace steps c;
+      front = front;
+      backOrder = next .words;
+      backGoals = next .goals;
+      backStart = next .start;
+      backTrace = backOf c trace;
+      backSteps = back-steps trace steps c;
+      back = call-of shop (next .words) (backOf c trace) (next .passes) (back-passes trace steps c);
+    }
+
+pub demand-3-of-replays : Demand3OfReplays
+demand-3-of-replays = record {
+  join-of-replays = λ shop first second trace one two.
+      join-of-replays shop first second trace (order-of-trace shop first trace one) (order-of-trace shop second trace two) (trace-passed shop first trace one);
+  calls-are-there = λ shop first second trace one two.
+      let h = order-of-trace shop first trace one in
+      let k = order-of-trace shop second trace two in
+      let steps = trace-passed shop first trace one in
+      record {
+        whole = λ goals few.
+            let j = joined shop first second h k goals few in
+            record { joined = j .words; means = j .means; call = call-of shop (j .words) trace (j .passes) steps };
+        parts = parts-are-there shop first second trace h k steps;
+      };
+}

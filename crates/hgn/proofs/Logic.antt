@@ -1,0 +1,3 @@
+-- The tests of `specs/` and what they decide.
+pub mod Ranges
+pub mod Tests

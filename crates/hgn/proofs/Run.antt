@@ -1,0 +1,10 @@
+-- One step, a run, Definition 1, and demand 2 of the replay.
+pub mod Moves
+pub mod Steps
+pub mod Runs
+pub mod Limits
+pub mod Effects
+pub mod Relevance
+pub mod Costs
+pub mod Derivation
+pub mod Replay
