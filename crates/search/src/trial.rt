@@ -7,6 +7,9 @@ use search_bound::achievers;
 use search_bound::least;
 use search_pruning::rules;
 use sheet_check::check::Shop;
+use sheet_index::index::Span;
+use sheet_index::operators;
+use sheet_rows::refusal::Refusal;
 use step::moves::Choice;
 use step::moves::Move;
 use step::questions;
@@ -15,15 +18,49 @@ ghost use mathlib.Core.Path.{_≡_};
 ghost use mathlib.Core.Bool.{true, cond, not};
 ghost use Prim.Native.Nat.{_<_, _≤_};
 ghost use lib.Dec.{ltb};
-ghost use Rattle.hgn.specs.Network.{free, goalAt};
+ghost use Rattle.hgn.specs.Network.{mostWaiting, free, goalAt};
 ghost use Rattle.hgn.specs.Shop.{actionCount, methodCount};
 ghost use Rattle.hgn.specs.Search.{mostDepth};
 ghost use Rattle.sheet_index.specs.Tables.{Indexed};
 ghost use Rattle.network.specs.Goals.{countIn, listIn, Within};
 ghost use Rattle.step.specs.Moves.{Known, knownOf};
+ghost use Rattle.step.specs.Deciding.{Answers};
 ghost use Rattle.step.specs.Taking.{problemWith, ValidGoals};
 ghost use Rattle.search_pruning.specs.Tests.{crowded, stepOf};
 ghost use Rattle.search.specs.Trials.{Lent, MayTake, Opens, Suffices};
+
+// The first no of a move's own questions, at a goal with these rows and under this load. A replay's step asks them by a function of the same
+// contract, `move_refusal` of `step`: a function that both call is compiled into neither, and handing its arguments over costs a replay a fifth.
+fn own_refusal<'a>(
+    shop: &'a [u16],
+    order: &'a [u16],
+    tables: &[u16],
+    atoms: &[bool; Shop::MOST_ATOMS as usize],
+    known: Move,
+    goal: Span,
+    load: Load,
+) -> Refusal
+    requires { ⌜ Indexed (now shop) (now order) (now tables) ⌝ }
+    requires { ⌜ Known (actionCount (now shop)) (methodCount (now shop)) known × (load .count ≤ mostWaiting) ⌝ }
+    ensures { λ r. ⌜ Answers (now (shop .entry)) (now (order .entry)) (now (atoms .entry)) goal load (knownOf known) r ⌝ }
+{
+    match known {
+        Move::Release => questions::release_refusal(shop, order, atoms, goal),
+        Move::Act(action) => {
+            let rows = operators::action_part(shop, tables, action);
+            questions::action_refusal(shop, order, atoms, rows, goal)
+        }
+        Move::Use(method) => questions::method_refusal(
+            shop,
+            order,
+            tables,
+            atoms,
+            method,
+            goal,
+            load,
+        ),
+    }
+}
 
 // No question of the move's own is answered no at a free goal, and it is no action that leaves the state as it is.
 fn may_take<'a>(
@@ -44,7 +81,7 @@ fn may_take<'a>(
         limit: Goals::MOST,
     };
     let goal = goals::entry_at(goals, choice.place);
-    let refusal = questions::move_refusal(shop, order, tables, atoms, mv, goal.rows, load);
+    let refusal = own_refusal(shop, order, tables, atoms, mv, goal.rows, load);
     if refusal.number != 0 {
         return false;
     }

@@ -41,6 +41,10 @@ abbrev pub Answers : List ℕ → List ℕ → State → Span → Load → Run.M
 Answers shop order s goal load m r = (n : ℕ) (P : Problem) (p : ℕ) → Faces shop order s goal (load .count) P p
     → refusalOf r ≡ answered (firstNo (ownQuestions (strict (load .limit) (domain shop)) n P p m))
 
+-- The first no of a release's own question is told, whatever the load.
+abbrev pub ReleaseAnswers : List ℕ → List ℕ → State → Span → Refusal → Type 0
+ReleaseAnswers shop order s goal r = (load : Load) → Answers shop order s goal load Run.release r
+
 -- The first no of the own questions of an action with these rows is told, whatever the action's number and the load.
 abbrev pub ActionAnswers : List ℕ → List ℕ → State → Part → Span → Refusal → Type 0
 ActionAnswers shop order s rows goal r = (k : ℕ) (load : Load) → ActionIn shop k rows

@@ -5,6 +5,7 @@ use crate::moves::Step;
 use network::goals::GoalStatus;
 use sheet_check::check::Shop;
 use sheet_check::rows::word;
+use sheet_check::sizes::ShopSizes;
 use sheet_index::index::Part;
 use sheet_index::index::Span;
 use sheet_index::operators;
@@ -23,7 +24,7 @@ ghost use Rattle.hgn.specs.Shop.{actionCount, methodCount};
 ghost use Rattle.step.specs.Moves.{Known, knownOf};
 ghost use Rattle.sheet_index.specs.Index.{Lies};
 ghost use Rattle.sheet_index.specs.Tables.{Indexed};
-ghost use Rattle.step.specs.Deciding.{ActionAnswers, Answers, StatusIn, Decides};
+ghost use Rattle.step.specs.Deciding.{ReleaseAnswers, ActionAnswers, Answers, StatusIn, Decides};
 ghost use Rattle.hgn.specs.Network.{mostWaiting};
 
 // The first question that fails, or the move that may be taken.
@@ -48,8 +49,23 @@ impl Load {
     }
 }
 
+// The first no of a release's own question at a goal by its rows: 29 where the goal does not hold.
+pub fn release_refusal<'a>(
+    shop: &'a [u16],
+    order: &'a [u16],
+    atoms: &[bool; Shop::MOST_ATOMS as usize],
+    goal: Span,
+) -> Refusal
+    ensures { λ r. ⌜ ReleaseAnswers (now (shop .entry)) (now (order .entry)) (now (atoms .entry)) goal r ⌝ }
+{
+    if parts::goal_holds(atoms, shop, order, goal) {
+        return Refusal::none();
+    }
+    Refusal::by(29)
+}
+
 // The first no of an action's own questions at a goal, both by their rows: 30 where its needs do not hold, 31 where it is not relevant.
-fn action_refusal<'a>(
+pub fn action_refusal<'a>(
     shop: &'a [u16],
     order: &'a [u16],
     atoms: &[bool; Shop::MOST_ATOMS as usize],
@@ -70,7 +86,7 @@ fn action_refusal<'a>(
 
 // The first no of a method's own questions at a goal by its rows: 30 where its needs do not hold, 31 where it is not relevant, 32 where
 // more goals would wait than may.
-fn method_refusal<'a>(
+pub fn method_refusal<'a>(
     shop: &'a [u16],
     order: &'a [u16],
     tables: &[u16],
@@ -99,8 +115,8 @@ fn method_refusal<'a>(
     Refusal::by(30)
 }
 
-// A move's own questions, at a goal with these rows and under this load. For a release, does it hold? 29.
-pub fn move_refusal<'a>(
+// The first no of a move's own questions, at a goal with these rows and under this load.
+fn move_refusal<'a>(
     shop: &'a [u16],
     order: &'a [u16],
     tables: &[u16],
@@ -114,12 +130,7 @@ pub fn move_refusal<'a>(
     ensures { λ r. ⌜ Answers (now (shop .entry)) (now (order .entry)) (now (atoms .entry)) goal load (knownOf known) r ⌝ }
 {
     match known {
-        Move::Release => {
-            if parts::goal_holds(atoms, shop, order, goal) {
-                return Refusal::none();
-            }
-            Refusal::by(29)
-        }
+        Move::Release => release_refusal(shop, order, atoms, goal),
         Move::Act(action) => {
             let rows = operators::action_part(shop, tables, action);
             action_refusal(shop, order, atoms, rows, goal)
@@ -144,8 +155,8 @@ pub fn decide<'a>(
         → Decides (load .limit) (now (shop .entry)) P (step .mv) (step .place .0) r) ⌝ }
 {
     if step.place.0 < load.count {
-        let actions = word(shop, 1);
-        let methods = word(shop, 2);
+        let actions = word(shop, ShopSizes::ACTIONS);
+        let methods = word(shop, ShopSizes::METHODS);
         let reading = Move::read(step.mv, actions, methods);
         let Read::Readable(known) = reading else {
             return Decision::Refused(Refusal::by(26));

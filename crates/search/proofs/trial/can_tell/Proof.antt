@@ -1,5 +1,4 @@
 -- By whether a branch ran out of steps before. Assumes nothing.
-use borrow.Author.Needs.{needs}
 use borrow.Author.Tests.{lt-ltb, le-ltb}
 use Rattle.search.proofs.trial.can_tell.Statement.{statement}
 use Rattle.search.proofs.trial.can_tell.Tie as tie

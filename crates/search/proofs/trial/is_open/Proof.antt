@@ -1,7 +1,6 @@
 -- Each reason to leave the step out, however many steps are left. Assumes nothing.
 use native.Mathlib.Omega.{arith}
 use mathlib.Core.Path.{subst}
-use borrow.Author.Needs.{needs}
 use Rattle.sheet_rows.proofs.Laws.{told}
 use Rattle.step.specs.Taking.{problemWith}
 use Rattle.search.specs.Trials.{MayTake}

@@ -1,6 +1,5 @@
 -- Too few steps, then the least number of steps. Assumes nothing.
 use mathlib.Core.Logic.{inl}
-use borrow.Author.Needs.{needs}
 use Rattle.sheet_rows.proofs.Laws.{told}
 use Rattle.search.proofs.Trying.{suffices-least}
 use Rattle.search.proofs.trial.may_suffice.Statement.{statement}

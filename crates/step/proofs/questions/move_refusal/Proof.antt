@@ -1,9 +1,5 @@
 -- A move's own questions, by its cases. Assumes nothing.
-use mathlib.Core.Path.{sym, ap, _∙_}
 use borrow.Author.Needs.{needs}
-use Rattle.hgn.specs.Questions.{answered}
-use Rattle.sheet_rows.proofs.Laws as Laws
-use Rattle.step.proofs.Bodies.{own-holds, own-29}
 use Rattle.step.proofs.Actions.{known-action, known-method}
 use Rattle.step.proofs.Decided.{of-release, of-action, of-method}
 use Rattle.step.proofs.questions.move_refusal.Statement.{statement}
@@ -15,15 +11,7 @@ move-refusal-spec =
     (tie.spec
     -- enum-told
     (λ c. search needs)
-    -- goal-holds-requires
-    (λ c κs. search needs)
-    -- none-requires
-    (λ c κs. search needs)
-    -- returns
-    (λ c.
-    of-release _ _ _ _ _ (c .before .before .before .enum-told .given .1)
-    (λ n P p f. c .none .ensures ∙ sym (ap answered (own-holds _ _ _ _ _ _ n p P f (Laws.told (c .before .before .goal-holds .ensures) (c .before .if1 .taken))))))
-    -- by-requires
+    -- release-refusal-requires
     (λ c κs. search needs)
     -- enum-known-known
     (λ c. search needs)
@@ -40,11 +28,9 @@ move-refusal-spec =
     (λ c κs.
     let s = c .before .before .before .before .before .before in
     (s .pre .0, (known-method (s .pre .0) (s .pre .1 .0) (c .before .known2 .given .1), s .pre .1 .1)))
+    -- returns
+    (λ c. of-release _ _ _ _ _ (c .before .enum-told .given .1) (c .release-refusal .ensures _))
     -- returns-2
-    (λ c.
-    of-release _ _ _ _ _ (c .before .before .before .enum-told .given .1)
-    (λ n P p f. c .by .ensures ∙ sym (ap answered (own-29 _ _ _ _ _ _ n p P f (Laws.told (c .before .before .goal-holds .ensures) (c .before .if1 .left))))))
-    -- returns-3
     (λ c. of-action _ _ _ _ _ (c .before .action-part .result) (c .before .before .before .known .given .1) (c .before .action-part .ensures) (c .action-refusal .ensures))
-    -- returns-4
+    -- returns-3
     (λ c. of-method _ _ _ _ _ (c .before .before .known2 .given .1) (c .method-refusal .ensures)))
