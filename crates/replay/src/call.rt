@@ -7,6 +7,8 @@ use network::goals::Goals;
 use sheet_check::check;
 use sheet_check::check::Trace;
 use sheet_check::rows::word;
+use sheet_check::sizes::ShopSizes;
+use sheet_check::sizes::TraceSizes;
 use sheet_index::index::Tables;
 use sheet_rows::refusal::Refusal;
 ghost use mathlib.Core.Path.{_≡_};
@@ -26,7 +28,7 @@ fn moves_of(trace: &[u16]) -> &[u16]
     requires { ⌜ 1 + stepCount (now trace) ≤ length (now trace) ⌝ }
     ensures { λ r. ⌜ now r ≡ take (stepCount (now (trace .entry))) (drop 1 (now (trace .entry))) ⌝ }
 {
-    let steps = word(trace, 0) as usize;
+    let steps = word(trace, TraceSizes::STEPS) as usize;
     &trace[Trace::SIZES..Trace::SIZES + steps]
 }
 
@@ -59,13 +61,13 @@ pub fn replay<'a>(shop: &'a [u16], order: &'a [u16], trace: &[u16], plan: &mut [
     if refusal.number != 0 {
         return Answer::refused(refusal);
     }
-    if plan.len() < word(trace, 0) as usize {
+    if plan.len() < word(trace, TraceSizes::STEPS) as usize {
         return Answer::refused(Refusal::by(24));
     }
     let answer = run_checked(shop, order, trace);
     if answer.refusal.number != 0 {
         return answer;
     }
-    plan::write_plan(moves_of(trace), word(shop, 1), plan);
+    plan::write_plan(moves_of(trace), word(shop, ShopSizes::ACTIONS), plan);
     answer
 }

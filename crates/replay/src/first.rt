@@ -36,7 +36,7 @@ ghost use Rattle.replay.specs.Running.{FirstGoals, Prepared};
 fn first_node(order: &[u16], tables: &[u16]) -> Row
     ensures { λ r. ⌜ r .0 ≡ firstRow (now (order .entry)) (now (tables .entry)) ⌝ }
 {
-    if word(order, Order::SIZES - 1) == 0 {
+    if word(order, OrderSizes::ROWS) == 0 {
         return Row(0);
     }
     if word(order, Order::SIZES) == tag::NODE {
@@ -50,7 +50,7 @@ pub fn start<'a>(shop: &'a [u16], order: &'a [u16]) -> [bool; Shop::MOST_ATOMS a
     requires { ⌜ OrderSheet.checkOrder (now shop) (now order) ≡ passed ⌝ }
     ensures { λ r. ⌜ r ≡ startOf (OrderSheet.order (now (order .entry))) ⌝ }
 {
-    let end = Row(word(order, Order::SIZES - 1));
+    let end = Row(word(order, OrderSizes::ROWS));
     let rows = Span {
         sheet: Sheet::Order,
         from: Row(0),

@@ -1,4 +1,4 @@
-// The sizes that a sheet begins with, by name, so that only this file knows in which word each stands. Document 01, "The three sheets".
+// The sizes that a sheet begins with, by name: only this file says in which word each stands. Document 01, "The three sheets".
 use crate::check::Order;
 use crate::check::Shop;
 use crate::rows::Layout;
@@ -30,13 +30,13 @@ pub struct TraceSizes {
 
 impl ShopSizes {
     // The word in which each stands.
-    const ATOMS: usize = 0;
+    pub const ATOMS: usize = 0;
 
-    const ACTIONS: usize = 1;
+    pub const ACTIONS: usize = 1;
 
-    const METHODS: usize = 2;
+    pub const METHODS: usize = 2;
 
-    const ROWS: usize = 3;
+    pub const ROWS: usize = 3;
 
     // Reads them from a sheet. One that a sheet is too short to have is 0.
     pub fn of(shop: &[u16]) -> ShopSizes
@@ -63,11 +63,11 @@ impl ShopSizes {
 
 impl OrderSizes {
     // The word in which each stands.
-    const ATOMS: usize = 0;
+    pub const ATOMS: usize = 0;
 
-    const GOALS: usize = 1;
+    pub const GOALS: usize = 1;
 
-    const ROWS: usize = 2;
+    pub const ROWS: usize = 2;
 
     // Reads them from a sheet. One that a sheet is too short to have is 0.
     pub fn of(order: &[u16]) -> OrderSizes
@@ -93,7 +93,7 @@ impl OrderSizes {
 
 impl TraceSizes {
     // The word in which it stands.
-    const STEPS: usize = 0;
+    pub const STEPS: usize = 0;
 
     // Reads it from a trace. Of a trace that has no word it is 0.
     pub fn of(trace: &[u16]) -> TraceSizes

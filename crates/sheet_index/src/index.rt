@@ -4,6 +4,8 @@ use sheet_check::check::Shop;
 use sheet_check::rows::Layout;
 use sheet_check::rows::Row;
 use sheet_check::rows::word;
+use sheet_check::sizes::OrderSizes;
+use sheet_check::sizes::ShopSizes;
 use sheet_rows::position::Sheet;
 use sheet_rows::tag;
 ghost use mathlib.Core.Path.{_≡_};
@@ -76,14 +78,14 @@ pub fn layout_of(sheet: Sheet, words: &[u16]) -> Layout
 {
     match sheet {
         Sheet::Shop => {
-            let rows = word(words, Shop::SIZES - 1) as usize;
+            let rows = word(words, ShopSizes::ROWS) as usize;
             Layout {
                 sizes: Shop::SIZES,
                 rows: rows,
             }
         }
         Sheet::Order => {
-            let rows = word(words, Order::SIZES - 1) as usize;
+            let rows = word(words, OrderSizes::ROWS) as usize;
             Layout {
                 sizes: Order::SIZES,
                 rows: rows,

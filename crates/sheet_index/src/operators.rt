@@ -6,6 +6,7 @@ use sheet_check::check::Shop;
 use sheet_check::rows::Layout;
 use sheet_check::rows::Row;
 use sheet_check::rows::word;
+use sheet_check::sizes::ShopSizes;
 use sheet_rows::position::Sheet;
 ghost use mathlib.Core.Path.{_≡_};
 ghost use mathlib.Core.List.{List, []};
@@ -48,13 +49,13 @@ impl Span {
 
 impl Part {
     // Rows `from` up to `to` of the shop sheet, which has them.
-    fn inside(shop: &[u16], from: u16, to: u16) -> Part
-        requires { ⌜ Inside (now shop) from to ⌝ }
-        ensures { λ r. ⌜ HasRows (now (shop .entry)) from to r ⌝ }
+    fn inside(shop: &[u16], from: Row, to: Row) -> Part
+        requires { ⌜ Inside (now shop) (from .0) (to .0) ⌝ }
+        ensures { λ r. ⌜ HasRows (now (shop .entry)) (from .0) (to .0) r ⌝ }
     {
-        let rows = word(shop, Shop::SIZES - 1) as usize;
-        let start = from as usize;
-        let end = to as usize;
+        let rows = word(shop, ShopSizes::ROWS) as usize;
+        let start = from.0 as usize;
+        let end = to.0 as usize;
         Part {
             tags: Shop::SIZES + start,
             values: Shop::SIZES + rows + start,
@@ -66,11 +67,11 @@ impl Part {
     pub fn of_shop(shop: &[u16], from: Row, to: Row) -> Part
         ensures { λ r. ⌜ HasRows (now (shop .entry)) (from .0) (to .0) r ⌝ }
     {
-        let rows = word(shop, Shop::SIZES - 1) as usize;
+        let rows = word(shop, ShopSizes::ROWS) as usize;
         if from.0 <= to.0 {
             if to.0 as usize <= rows {
                 if Shop::SIZES + (rows + rows) <= shop.len() {
-                    return Part::inside(shop, from.0, to.0);
+                    return Part::inside(shop, from, to);
                 }
             }
         }
@@ -100,8 +101,8 @@ pub fn action_part(shop: &[u16], tables: &[u16], action: u16) -> Part
     ensures { λ r. ⌜ ActionIn (now (shop .entry)) action r ⌝ }
 {
     let at = Tables::STARTS + action as usize;
-    let from = tables[at - 1] + 1;
-    let to = tables[at];
+    let from = Row(tables[at - 1] + 1);
+    let to = Row(tables[at]);
     Part::inside(shop, from, to)
 }
 
@@ -112,7 +113,7 @@ pub fn action_cost(shop: &[u16], tables: &[u16], action: u16) -> u16
 {
     let at = Tables::STARTS + action as usize;
     let row = Row(tables[at - 1]);
-    let rows = word(shop, Shop::SIZES - 1) as usize;
+    let rows = word(shop, ShopSizes::ROWS) as usize;
     let layout = Layout {
         sizes: Shop::SIZES,
         rows: rows,
@@ -125,7 +126,7 @@ pub fn method_rows(shop: &[u16], tables: &[u16], method: u16) -> MethodRows
     requires { ⌜ ((order : List ℕ) × Indexed (now shop) order (now tables) × (method < methodCount (now shop))) ⌝ }
     ensures { λ r. ⌜ ((order : List ℕ) → Indexed (now (shop .entry)) order (now (tables .entry)) → MethodAt (now (shop .entry)) order (now (tables .entry)) method r) ⌝ }
 {
-    let actions = word(shop, Shop::SIZES - 3) as usize;
+    let actions = word(shop, ShopSizes::ACTIONS) as usize;
     let at = Tables::STARTS + actions + method as usize;
     let from = tables[at];
     let end = tables[at + 1];

@@ -58,7 +58,7 @@ pub enum Reading {
 }
 
 impl Sheet {
-    // The number of the first question asked of a row.
+    // The number of the first question asked of a row: 4 to 6 are asked of a shop sheet, 14 to 16 of an order sheet.
     pub fn first_question(self) -> u16
         ensures { λ r. ⌜ r ≡ firstQuestionOf self ⌝ }
     {

@@ -9,7 +9,6 @@ pub first-node-spec : {M : Type 1} → statement M
 first-node-spec =
     tie.close
     (tie.spec
-    (λ c. search needs)
     (λ c κs. search needs)
     (λ c. rw (eq-eqb _ 0 (sym (c .before .word .ensures) ∙ c .if1 .taken)) refl)
     (λ c κs. search needs)

@@ -1,10 +1,7 @@
 -- The table is filled for the order. Assumes nothing.
 use native.Mathlib.Omega.{arith}
-use mathlib.Core.Path.{subst}
 use borrow.Author.Needs.{needs}
 use Rattle.hgn.specs.Order.{orderRows}
-use Rattle.sheet_check.specs.declared.rows.Layout.{Layout}
-use Rattle.sheet_index.specs.Index.{Filled}
 use Rattle.sheet_index.proofs.Indexed.{order-indexable}
 use Rattle.replay.proofs.first.index_order.Statement.{statement}
 use Rattle.replay.proofs.first.index_order.Tie as tie

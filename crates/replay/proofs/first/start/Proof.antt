@@ -20,7 +20,6 @@ unfolding startOf orderOf Order.order spanRows
 start-spec =
     tie.close
     (tie.spec
-    (λ c. search needs)
     (λ c κs. search needs)
     (λ c κs. search needs)
     (λ c κs. search needs)

@@ -1,7 +1,7 @@
 -- The nodes of the order, walked along its table (`Firsts`), are all that waits. Assumes nothing.
 use Prim.Native.Nat.{ℕ}
 use native.Mathlib.Omega.{arith}
-use mathlib.Core.Path.{_≡_, refl, sym, subst, _∙_}
+use mathlib.Core.Path.{refl, sym, subst, _∙_}
 use borrow.Author.Needs.{needs}
 use Rattle.hgn.specs.Order as Order
 use Rattle.hgn.proofs.Sheets.Checked.{order-count, order-goals}

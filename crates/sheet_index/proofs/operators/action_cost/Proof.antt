@@ -21,8 +21,6 @@ action-cost-spec =
     (λ c. search needs)
     -- shared-slice-read-rows
     (λ c. let p = c .before .before .before .pre in omega (arith, action-in-table (p .1) _ (p .2) (p .3)))
-    -- sub-word
-    (λ c. search needs)
     -- word-requires
     (λ c κs. search needs)
     -- cast-rows

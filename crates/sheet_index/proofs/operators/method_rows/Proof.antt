@@ -9,8 +9,6 @@ pub method-rows-spec : {M : Type 1} → statement M
 method-rows-spec =
     tie.close
     (tie.spec
-    -- sub-word
-    (λ c. search needs)
     -- word-requires
     (λ c κs. search needs)
     -- cast-actions

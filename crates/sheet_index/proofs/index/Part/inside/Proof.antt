@@ -8,11 +8,13 @@ pub inside-spec : {M : Type 1} → statement M
 inside-spec =
     tie.close
     (tie.spec
-    -- sub-word
-    (λ c. search needs)
     -- word-requires
     (λ c κs. search needs)
     -- cast-rows
+    (λ c. search needs)
+    -- cast-start
+    (λ c. search needs)
+    -- cast-end
     (λ c. search needs)
     -- add-t8
     (λ c. search needs)
@@ -23,4 +25,4 @@ inside-spec =
     -- sub-t11
     (λ c. search needs)
     -- returns
-    (λ c. has-rows _ _ _ _ (c .word .ensures) (c .before .before .pre)))
+    (λ c. has-rows _ _ _ _ (c .before .before .word .ensures) (c .before .before .before .before .pre)))

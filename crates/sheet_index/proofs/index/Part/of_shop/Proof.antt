@@ -8,8 +8,6 @@ pub of-shop-spec : {M : Type 1} → statement M
 of-shop-spec =
     tie.close
     (tie.spec
-    -- sub-word
-    (λ c. search needs)
     -- word-requires
     (λ c κs. search needs)
     -- cast-rows
