@@ -1,5 +1,5 @@
 -- The words of waiting goals: one goal written, and the words behind one moved down over it. Assumes nothing.
-use Prim.Native.Nat.{ℕ, zero, suc, _+_, _-_, _*_, _<_, _≤_}
+use Prim.Native.Nat.{ℕ, _+_, _-_, _<_, _≤_}
 use native.Mathlib.Omega.{arith}
 use native.Mathlib.Numerals.{add-one}
 use native.Mathlib.Nat.{add-zero}
@@ -8,7 +8,7 @@ use mathlib.Core.Bool.{Bool, true, false, cond}
 use mathlib.Core.List.{List, [], _∷_, _++_}
 use lib.Dec.{eqb}
 use lib.ListN.{length, take, drop, getD, set, length-set, length-take, List·getD-append}
-use lib.Seq.{paste, paste-zero, paste-suc, length-paste, length-paste-head, length-take-le, getD-take, getD-drop, getD-append-add, getD-set-same, getD-set-other}
+use lib.Seq.{paste, paste-suc, length-paste, length-paste-head, length-take-le, getD-take, getD-drop, getD-append-add, getD-set-same, getD-set-other}
 use borrow.Author.Tests.{eqb-true, eqb-false}
 use Rattle.hgn.specs.Network.{mostWaiting}
 use Rattle.network.specs.declared.waiting.Entry.{Entry}

@@ -21,7 +21,6 @@ use Rattle.hgn.proofs.Run.Steps.{Moved, by-release, by-action, by-method, took}
 use Rattle.hgn.proofs.Search.Waits.{one-released, none-lost}
 use Rattle.sheet_rows.specs.Refusals.{refusalOf}
 use Rattle.sheet_rows.specs.declared.refusal.Refusal as Code
-use Rattle.sheet_rows.proofs.Laws.{told}
 use Rattle.sheet_index.specs.Index.{spanRows}
 use Rattle.sheet_index.specs.Tables.{Indexed}
 use Rattle.network.specs.Entries.{waitingOf}

@@ -1,7 +1,7 @@
 -- The steps that the code has found, and the call's answer, as the definitions have them. Document 01, "Questions".
 use Prim.Native.Nat.{ℕ, _+_, _≤_}
 use mathlib.Core.Path.{_≡_}
-use mathlib.Core.Bool.{Bool, true, false, cond}
+use mathlib.Core.Bool.{true, false, cond}
 use mathlib.Core.Logic.{_⊎_}
 use mathlib.Core.List.{List, _∷_, _++_, zipWith}
 use mathlib.Core.Option.{Option, none, some}

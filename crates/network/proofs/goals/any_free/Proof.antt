@@ -1,14 +1,14 @@
 -- None of the goals passed is free. Assumes nothing.
-use Prim.Native.Nat.{ℕ, _-_, _<_, _≤_}
+use Prim.Native.Nat.{ℕ, _-_, _<_}
 use native.Mathlib.Omega.{arith}
-use mathlib.Core.Path.{_≡_, refl, sym, ap, subst, _∙_}
-use mathlib.Core.Bool.{Bool, true, false}
+use mathlib.Core.Path.{_≡_, ap, _∙_}
+use mathlib.Core.Bool.{false}
 use lib.Dec.{eqb}
 use borrow.Author.Needs.{needs}
 use borrow.Author.Tests.{eqb-true, eqb-false}
 use Rattle.sheet_rows.proofs.Laws.{told}
 use Rattle.sheet_index.proofs.Spans.{by-test}
-use Rattle.network.specs.Goals.{countIn, pendingIn}
+use Rattle.network.specs.Goals.{pendingIn}
 use Rattle.network.proofs.WaitingGoals.{some-free, none-free}
 use Rattle.network.proofs.goals.any_free.Statement.{statement}
 use Rattle.network.proofs.goals.any_free.Tie as tie

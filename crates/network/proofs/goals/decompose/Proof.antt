@@ -1,15 +1,13 @@
 -- The nodes enter, and the goal comes after each of them (`goals-decomposed`). Assumes nothing.
-use Prim.Native.Nat.{ℕ, _+_, _≤_}
+use Prim.Native.Nat.{_+_, _≤_}
 use native.Mathlib.Omega.{arith}
-use mathlib.Core.Path.{_≡_, refl, ap, subst, _∙_}
-use mathlib.Core.List.{List}
+use mathlib.Core.Path.{_≡_, refl, ap, _∙_}
 use lib.ListN.{length, set}
-use borrow.Author.Needs.{needs}
 use Rattle.hgn.specs.Network.{mostWaiting}
 use Rattle.sheet_index.specs.Tables.{MethodAt}
 use Rattle.sheet_index.proofs.OperatorRows.{method-size}
 use Rattle.network.specs.declared.waiting.Entry.{Entry}
-use Rattle.network.specs.Goals.{pendingField, countIn, startOf, OpenedWords, Decomposed}
+use Rattle.network.specs.Goals.{countIn}
 use Rattle.network.proofs.Entering.{goals-decomposed}
 use Rattle.network.proofs.goals.decompose.Statement.{statement}
 use Rattle.network.proofs.goals.decompose.Tie as tie

@@ -1,5 +1,5 @@
 -- Field by field. Assumes nothing.
-use mathlib.Core.Path.{_≡_, refl, ap}
+use mathlib.Core.Path.{refl}
 use borrow.Author.Needs.{needs}
 use Rattle.network.specs.Goals.{entryFrom}
 use Rattle.network.proofs.goals.entry_at.Statement.{statement}

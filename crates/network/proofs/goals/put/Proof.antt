@@ -1,5 +1,4 @@
 -- The words of the goal are copied to its place (`put-words`). Assumes nothing.
-use native.Mathlib.Omega.{arith}
 use borrow.Author.Needs.{needs}
 use Rattle.network.proofs.Words.{put-words}
 use Rattle.network.proofs.goals.put.Statement.{statement}

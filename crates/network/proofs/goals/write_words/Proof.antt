@@ -1,9 +1,8 @@
 -- After `i` turns the first `i` words are copied. Assumes nothing.
 use Prim.Native.Nat.{_≤_, _-_}
 use native.Mathlib.Omega.{arith}
-use mathlib.Core.Path.{_≡_, ap, _∙_}
-use lib.ListN.{length}
-use lib.Seq.{paste, paste-zero, length-paste}
+use mathlib.Core.Path.{_≡_}
+use lib.Seq.{paste, paste-zero}
 use borrow.Author.Needs.{needs}
 use Rattle.network.specs.Goals.{fields}
 use Rattle.network.proofs.Words.{word-more}

@@ -9,10 +9,10 @@ use borrow.Author.Needs.{needs}
 use Rattle.hgn.specs.Run.{Problem, Step}
 use Rattle.hgn.specs.Replay.{rulesOf}
 use Rattle.step.specs.Taking.{problemWith}
-use Rattle.search_theory.specs.Pruned.{prunedOf, prunedShortest}
+use Rattle.search_theory.specs.Pruned.{prunedOf}
 use Rattle.search_pruning.specs.Tests.{stepOf}
 use Rattle.search.specs.Founds.{foundOf, shortestOf, Finds}
-use Rattle.search.specs.Trials.{firstNode, Stands}
+use Rattle.search.specs.Trials.{Stands}
 use Rattle.search.specs.declared.explore.Node.{Node}
 use Rattle.search.specs.declared.shortest.Shortest.{Shortest}
 use Rattle.search.proofs.Depths.{NoneBelow, atDepth, finds-is, none-from, found-first, none-yet, none-found, none-longer}

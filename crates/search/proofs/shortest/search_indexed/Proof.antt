@@ -1,6 +1,5 @@
 -- The first state, the order's goals and the tables, then the search by depth, which finds what the definition does (`Pruned` of `search_theory`).
 -- Assumes nothing.
-use native.Mathlib.Omega.{arith}
 use mathlib.Core.Path.{_∙_, ap₂}
 use mathlib.Core.List.{List}
 use borrow.Author.Needs.{needs}
