@@ -1,4 +1,4 @@
-//! Evidence about the proved library: inputs, comparisons with the reference model,
+//! Tests of the proved library from outside: inputs, comparisons with the reference implementation,
 //! and what the benchmarks measure. The tests stand in `tests/`.
 
 #![forbid(unsafe_code)]
