@@ -30,7 +30,7 @@ ghost use Rattle.search_pruning.specs.Tests.{crowded, stepOf};
 ghost use Rattle.search.specs.Trials.{Lent, MayTake, Opens, Suffices};
 
 // The first no of a move's own questions, at a goal with these rows and under this load. A replay's step asks them by a function of the same
-// contract, `move_refusal` of `step`: a function that both call is compiled into neither, and handing its arguments over costs a replay a fifth.
+// contract, `move_refusal` of `step`: a function that both call was compiled into neither, and replays were slower with it.
 fn own_refusal<'a>(
     shop: &'a [u16],
     order: &'a [u16],
