@@ -6,9 +6,10 @@ use Rattle.hgn.specs.QuestionCases.{repeated, QuestionCases}
 use Rattle.hgn.specs.Lists.{any, all, filter, takeUntil, splitAtEach, elem, range, firstSome}
 use Rattle.hgn.specs.Tag.{shopFollow, orderFollow, contextAfter, begins, leastHere, advance, inRange, rises}
 use Rattle.hgn.specs.Questions.{allAt, firstNo}
-use Rattle.hgn.specs.Rows.{rowsOf, valuesTagged, rowQuestions, positionAfter}
+use Rattle.hgn.specs.Rows.{rowsOf, valuesTagged}
+use Rattle.hgn.specs.RowQuestions.{rowQuestions, positionAfter}
 use Rattle.hgn.specs.Meaning.{literals, nodeOf, nodesOf, firstValue, actionOf, methodOf, startsWith, domainOf, orderOf, lastOf, goalOf, lastAfterAll, networkOf}
-use Rattle.hgn.specs.State.{emptyState, assign, literalHolds, allHold, formulaHolds, atomsOf, γ, contains, relevant}
+use Rattle.hgn.specs.State.{emptyState, assign, literalHolds, allHold, formulaHolds, unmet, unmetGoal, atomsOf, γ, contains, relevant}
 use Rattle.hgn.specs.Network.{sameOrigin, sameName, isParent, comesAfter, free, anyFree, enter, goalsOf, released, decomposed}
 use Rattle.hgn.specs.Run as Run
 use Rattle.hgn.specs.Shop as Shop
@@ -20,7 +21,7 @@ use Rattle.hgn.specs.Replay.{refusal, acceptance, reported, inputQuestio
 pub marked-cases : MarkedCases
 unfolding any all filter takeUntil splitAtEach elem range shopFollow orderFollow contextAfter begins leastHere advance inRange rises rowsOf valuesTagged literals
     nodeOf nodesOf firstValue actionOf methodOf startsWith domainOf orderOf lastOf goalOf lastAfterAll networkOf emptyState assign literalHolds allHold
-    formulaHolds atomsOf γ contains relevant sameOrigin sameName isParent comesAfter free anyFree enter goalsOf released decomposed Run.moveOf
+    formulaHolds unmet unmetGoal atomsOf γ contains relevant sameOrigin sameName isParent comesAfter free anyFree enter goalsOf released decomposed Run.moveOf
     Run.known Run.moved Run.ownQuestions Run.stepQuestions Run.deedOf Run.stepped Run.prepend Run.endQuestions Run.ended Run.runBy Run.planOf
     Run.startOf Run.costOf allAt firstNo rowQuestions positionAfter Shop.shopRows Shop.domain Shop.sizesInRange Shop.nodeRules Shop.methodQuestions
     Shop.shopEndQuestions Shop.shopQuestions Order.orderRows Order.order Order.sizesInRange Order.orderEndQuestions Order.orderQuestions stepsOf
@@ -30,7 +31,7 @@ marked-cases = refl
 pub question-cases : QuestionCases
 unfolding any all filter takeUntil splitAtEach elem shopFollow orderFollow contextAfter begins leastHere advance inRange rises rowsOf valuesTagged literals
     nodeOf nodesOf firstValue actionOf methodOf startsWith domainOf orderOf lastOf goalOf lastAfterAll networkOf emptyState assign literalHolds allHold
-    formulaHolds atomsOf γ contains relevant sameOrigin sameName isParent comesAfter free anyFree enter goalsOf released decomposed Run.moveOf
+    formulaHolds unmet unmetGoal atomsOf γ contains relevant sameOrigin sameName isParent comesAfter free anyFree enter goalsOf released decomposed Run.moveOf
     Run.known Run.moved Run.ownQuestions Run.stepQuestions Run.deedOf Run.stepped Run.prepend Run.endQuestions Run.ended Run.runBy Run.planOf
     Run.startOf Run.costOf allAt firstNo rowQuestions positionAfter Shop.shopRows Shop.domain Shop.sizesInRange Shop.nodeRules Shop.methodQuestions
     Shop.shopEndQuestions Shop.shopQuestions Order.orderRows Order.order Order.sizesInRange Order.orderEndQuestions Order.orderQuestions stepsOf

@@ -7,6 +7,7 @@ use Rattle.hgn.proofs.Run.Replay.{demand-2}
 use Rattle.hgn.proofs.Search.Search.{demand-2-of-search, search-agrees-with-replay}
 use Rattle.hgn.proofs.Join.Cut.{demand-3}
 use Rattle.hgn.proofs.Join.Replays.{demand-3-of-replays}
+use Rattle.hgn.proofs.Run.Unmet.{unmet-is-named, unmet-is-first, tests-tell-first}
 use Rattle.hgn.proofs.Sheets.Written.{sheets-are-written}
 use Rattle.hgn.proofs.Run.Derivation.{accepted-is-derivation}
 use Rattle.hgn.proofs.Questions.Order.{questions-in-order}
@@ -27,6 +28,9 @@ promised = record {
   search-agrees-with-replay = search-agrees-with-replay;
   demand-3 = demand-3;
   demand-3-of-replays = demand-3-of-replays;
+  unmet-is-named = unmet-is-named;
+  unmet-is-first = unmet-is-first;
+  tests-tell-first = tests-tell-first;
 }
 
 pub read : Read

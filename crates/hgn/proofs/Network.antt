@@ -5,3 +5,4 @@ pub mod Names
 pub mod Rooted
 pub mod Reached
 pub mod Precedes
+pub mod Formed

@@ -1,4 +1,4 @@
--- One step, a run, Definition 1, and demand 2 of the replay.
+-- One step, a run, Definition 1, demand 2 of the replay, and the atom that it names.
 pub mod Moves
 pub mod Steps
 pub mod Runs
@@ -8,3 +8,5 @@ pub mod Relevance
 pub mod Costs
 pub mod Derivation
 pub mod Replay
+pub mod Stopped
+pub mod Unmet

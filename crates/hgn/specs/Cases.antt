@@ -1,5 +1,5 @@
 -- Document 01's marked cases (●), in words: one list, and one statement that covers it.
--- Document 01, "One core of sixty centimetres".
+-- Document 01, "One core of sixty centimetres"; document 02, Req 01.
 use Prim.Native.Nat.{ℕ}
 use mathlib.Core.Path.{_≡_}
 use mathlib.Core.Bool.{true}
@@ -7,7 +7,8 @@ use mathlib.Core.List.{List, [], _∷_, _++_, map}
 use Rattle.hgn.specs.State.{emptyState, assign}
 use Rattle.hgn.specs.Replay.{Replayed, replay}
 
--- A replay's sheets, and what it answers: number, place, the atoms of the last state, plan count, cost, and the room at exit.
+-- A replay's sheets, and what it answers: number, place, the atoms of the last state, plan count, cost, the atom that is not as wanted (256 for
+-- none), and the room at exit.
 pub record Case : Type 0 where
   pub shop : List ℕ
   pub order : List ℕ
@@ -17,6 +18,7 @@ pub record Case : Type 0 where
   pub atoms : List ℕ
   pub count : ℕ
   pub cost : ℕ
+  pub atom : ℕ
   pub room : List ℕ
 
 -- The room that every case lends: one word more than the longest marked trace has steps.
@@ -50,13 +52,23 @@ eitherShop = 2 ∷ 1 ∷ 0 ∷ 2 ∷ 1 ∷ 5 ∷ 1 ∷ 0 ∷ []
 abbrev pub eitherOrder : List ℕ
 eitherOrder = 2 ∷ 1 ∷ 6 ∷ 7 ∷ 8 ∷ 9 ∷ 8 ∷ 10 ∷ 9 ∷ 0 ∷ 0 ∷ 0 ∷ 0 ∷ 0 ∷ 1 ∷ []
 
--- A refusal: no atoms, no plan, the room as it was lent.
-abbrev pub refusedCase : List ℕ → List ℕ → List ℕ → ℕ → ℕ → Case
-refusedCase shop order trace number place =
-    record { shop = shop; order = order; trace = trace; number = number; place = place; atoms = []; count = 0; cost = 0; room = lent }
+-- A refusal with its number, place and atom: no atoms are true, no plan, the room as it was lent.
+abbrev pub refusedCase : List ℕ → List ℕ → List ℕ → ℕ → ℕ → ℕ → Case
+refusedCase shop order trace number place atom = record {
+  shop = shop;
+  order = order;
+  trace = trace;
+  number = number;
+  place = place;
+  atoms = [];
+  count = 0;
+  cost = 0;
+  atom = atom;
+  room = lent;
+}
 
 -- The long core's shop and order with another trace, refused.
-abbrev pub coreRefused : List ℕ → ℕ → ℕ → Case
+abbrev pub coreRefused : List ℕ → ℕ → ℕ → ℕ → Case
 coreRefused = refusedCase coreShop coreOrder
 
 abbrev pub cases : List Case
@@ -71,14 +83,15 @@ cases =
       atoms = 1 ∷ 2 ∷ 3 ∷ [];
       count = 4;
       cost = 26;
+      atom = 256;
       room = 1 ∷ 2 ∷ 3 ∷ 4 ∷ 94 ∷ 95 ∷ 96 ∷ 97 ∷ 98 ∷ 99 ∷ 100 ∷ 101 ∷ [];
     }
     -- Without its last step.
-    ∷ coreRefused ((9 ∷ []) ++ (256 ∷ 1 ∷ 0 ∷ 2 ∷ 0 ∷ 3 ∷ 0 ∷ 4 ∷ 0 ∷ []) ++ (0 ∷ 0 ∷ 0 ∷ 0 ∷ 0 ∷ 0 ∷ 0 ∷ 0 ∷ 0 ∷ [])) 33 9
+    ∷ coreRefused ((9 ∷ []) ++ (256 ∷ 1 ∷ 0 ∷ 2 ∷ 0 ∷ 3 ∷ 0 ∷ 4 ∷ 0 ∷ []) ++ (0 ∷ 0 ∷ 0 ∷ 0 ∷ 0 ∷ 0 ∷ 0 ∷ 0 ∷ 0 ∷ [])) 33 9 256
     -- With an eleventh step, move 0.
     ∷ coreRefused
     ((11 ∷ []) ++ (256 ∷ 1 ∷ 0 ∷ 2 ∷ 0 ∷ 3 ∷ 0 ∷ 4 ∷ 0 ∷ 0 ∷ 0 ∷ []) ++ (0 ∷ 0 ∷ 0 ∷ 0 ∷ 0 ∷ 0 ∷ 0 ∷ 0 ∷ 0 ∷ 0 ∷ 0 ∷ []))
-    25 10
+    25 10 256
     -- No goals, no steps.
     ∷ record {
       shop = coreShop;
@@ -89,18 +102,19 @@ cases =
       atoms = [];
       count = 0;
       cost = 0;
+      atom = 256;
       room = lent;
     }
-    -- First step alone: move 4, whose needs do not hold; move 1, not relevant; move 5, unknown; move 0, a release, where the goal does not hold.
-    ∷ coreRefused (1 ∷ 4 ∷ 0 ∷ []) 30 0
-    ∷ coreRefused (1 ∷ 1 ∷ 0 ∷ []) 31 0
-    ∷ coreRefused (1 ∷ 5 ∷ 0 ∷ []) 26 0
-    ∷ coreRefused (1 ∷ 0 ∷ 0 ∷ []) 29 0
+    -- First step alone: move 4, which needs atom 2; move 1, not relevant; move 5, unknown; move 0, a release, where the goal wants atom 3.
+    ∷ coreRefused (1 ∷ 4 ∷ 0 ∷ []) 30 0 2
+    ∷ coreRefused (1 ∷ 1 ∷ 0 ∷ []) 31 0 256
+    ∷ coreRefused (1 ∷ 5 ∷ 0 ∷ []) 26 0 256
+    ∷ coreRefused (1 ∷ 0 ∷ 0 ∷ []) 29 0 3
     -- Two traces: 256 at 0, then 0 at 4, where the goal is not free; 256 at 0, then 0 at 5, past the last place.
-    ∷ coreRefused (2 ∷ 256 ∷ 0 ∷ 0 ∷ 4 ∷ []) 28 1
-    ∷ coreRefused (2 ∷ 256 ∷ 0 ∷ 0 ∷ 5 ∷ []) 25 1
+    ∷ coreRefused (2 ∷ 256 ∷ 0 ∷ 0 ∷ 4 ∷ []) 28 1 256
+    ∷ coreRefused (2 ∷ 256 ∷ 0 ∷ 0 ∷ 5 ∷ []) 25 1 256
     -- "0, or not 0 and 1": the action has a literal of the goal, and the opposite of another.
-    ∷ refusedCase eitherShop eitherOrder (1 ∷ 1 ∷ 0 ∷ []) 31 0
+    ∷ refusedCase eitherShop eitherOrder (1 ∷ 1 ∷ 0 ∷ []) 31 0 256
     ∷ []
 
 abbrev pub expected : Case → Replayed
@@ -110,6 +124,7 @@ expected c = record {
     state = assign true (c .atoms) emptyState;
     count = c .count;
     cost = c .cost;
+    atom = c .atom;
   };
   room = c .room;
 }

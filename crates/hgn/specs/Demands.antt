@@ -1,23 +1,24 @@
--- What is proved of the calls: the three demands of document 00, each as a named type with the demand quoted above it. Demands 1 and 2, and 3 of
--- replays, speak of whatever answer and room at exit equal the definition's, and the contract of each call says that its answer and room do;
--- demand 3 itself speaks of orders and states. What the definitions say, read a second time, stands in `Readings`. Values stand in `proofs/`, gathered in
--- `proofs/Demands.antt`.
+-- What is proved of the calls: the three demands of document 00 and Req 01 of document 02, each as a named type with its words quoted above it.
+-- Demands 1 and 2, 3 of replays, and Req 01 speak of whatever answer and room at exit equal the definition's, and the contract of each call
+-- says that its answer and room do; demand 3 itself speaks of orders and states. What the definitions say, read a second time, stands in
+-- `Readings`. Values stand in `proofs/`, gathered in `proofs/Demands.antt`.
 use Prim.Native.Nat.{ℕ, _+_, _*_, _≤_, _<_}
 use mathlib.Core.Path.{_≡_}
-use mathlib.Core.Logic.{_↔_, _≢_}
-use mathlib.Core.List.{List, _++_}
+use mathlib.Core.Logic.{_↔_, _⊎_, _≢_}
+use mathlib.Core.List.{List, [], _∷_, _++_}
 use lib.ListN.{length, take, drop}
-use Rattle.hgn.specs.Questions.{Refusal, Question, passed, answered, FirstNo, AllYes}
-use Rattle.hgn.specs.Meaning.{Order}
+use Rattle.hgn.specs.Lists.{At}
+use Rattle.hgn.specs.Questions.{Refusal, Failure, withoutAtom, Question, passed, answered, FirstNo, AllYes}
+use Rattle.hgn.specs.Meaning.{Literal, Formula, Domain, Order}
 use Rattle.hgn.specs.Rows.{mostRows}
-use Rattle.hgn.specs.State.{State, mostAtoms, emptyState}
-use Rattle.hgn.specs.Network.{mostWaiting}
-use Rattle.hgn.specs.Run.{Step, Problem, problemOf, startOf, Rules, costOf}
+use Rattle.hgn.specs.State.{State, mostAtoms, noAtom, emptyState, Entails, EntailsAll, Satisfies, unmet, unmetGoal}
+use Rattle.hgn.specs.Network.{mostWaiting, goalAt}
+use Rattle.hgn.specs.Run.{Step, Move, release, act, use-method, moveOf, actionAt, methodAt, Problem, problemOf, startOf, Rules, costOf}
 use Rattle.hgn.specs.Join.{Accepted, Cut, join}
-use Rattle.hgn.specs.Shop.{domain, checkShop, shopQuestions}
+use Rattle.hgn.specs.Shop.{atomCount, domain, checkShop, shopQuestions}
 use Rattle.hgn.specs.Order.{order, rowCount, checkOrder, orderQuestions}
 use Rattle.hgn.specs.Trace.{sizeWords, stepCount, stepsOf, traceQuestions, checkTrace}
-use Rattle.hgn.specs.Replay.{rulesOf, Replayed, replay, replayQuestions}
+use Rattle.hgn.specs.Replay.{rulesOf, Answer, Replayed, replay, replayQuestions}
 use Rattle.hgn.specs.Search.{Earlier, mostDepth, Searched, search, searchQuestions}
 use Rattle.hgn.specs.Definition1.{Derivation}
 use Rattle.hgn.specs.Readings.{Reached}
@@ -25,12 +26,12 @@ use Rattle.hgn.specs.Readings.{Reached}
 -- Demand 1. "Where a sheet, trace or depth is malformed in any way or lent room is too short, the public call gives the refusal number of
 -- document 01 for the first question it fails, writes nothing into lent memory, and stops."
 
--- A call that asks these questions and answers `a` refuses by the first no, and answers 0 where there is none. No question has the
--- number 0. `Untouched` is what a refusal leaves.
-pub record AnswersFirst (questions : List Question) (a : Refusal) (Untouched : Type 0) : Type 0 where
-  pub refused-iff : (q : Refusal) → FirstNo questions q ↔ ((q .number ≢ 0) × (a ≡ q))
-  pub passed-iff : AllYes questions ↔ (a .number ≡ 0)
-  pub untouched : a .number ≢ 0 → Untouched
+-- A call that asks these questions and answers `a` refuses by the first no, with its number, its place and its atom, and answers 0 where
+-- there is none. No question has the number 0. `Untouched` is what a refusal leaves.
+pub record AnswersFirst (questions : List Question) (a : Failure) (Untouched : Type 0) : Type 0 where
+  pub refused-iff : (f : Failure) → FirstNo questions f ↔ ((f .refusal .number ≢ 0) × (a ≡ f))
+  pub passed-iff : AllYes questions ↔ (a .refusal .number ≡ 0)
+  pub untouched : a .refusal .number ≢ 0 → Untouched
 
 -- Refused: the empty state, no plan, no cost, the room unchanged.
 pub record Refuses (room : List ℕ) (c : Replayed) : Type 0 where
@@ -39,9 +40,10 @@ pub record Refuses (room : List ℕ) (c : Replayed) : Type 0 where
   pub cost : c .answer .cost ≡ 0
   pub unchanged : c .room ≡ room
 
--- What a check of sheets answers. No memory is lent to a check, so there is none that a refusal could leave touched. "0 and 0 when passed."
+-- What a check of sheets answers: number and place, for its questions name no atom. No memory is lent to a check, so there is none that a
+-- refusal could leave touched. "0 and 0 when passed."
 pub record CheckAnswers (questions : List Question) (a : Refusal) : Type 0 where
-  pub first : AnswersFirst questions a (Unit {0})
+  pub first : AnswersFirst questions (withoutAtom a) (Unit {0})
   pub passed-place : a .number ≡ 0 → a .place ≡ 0
 
 abbrev pub ShopCheckAnswers : List ℕ → Refusal → Type 0
@@ -53,11 +55,17 @@ OrderCheckAnswers shop sheet a = CheckAnswers (shopQuestions shop ++ orderQuesti
 abbrev pub TraceCheckAnswers : List ℕ → List ℕ → List ℕ → Refusal → Type 0
 TraceCheckAnswers shop sheet trace a = CheckAnswers (shopQuestions shop ++ orderQuestions shop sheet ++ traceQuestions trace) a
 
-abbrev pub ReplayAnswers : List ℕ → List ℕ → List ℕ → List ℕ → Replayed → Type 0
-ReplayAnswers shop sheet trace room c = AnswersFirst (replayQuestions shop sheet trace room) (c .answer .refusal) (Refuses room c)
+-- What a replay's answer tells: its refusal and its atom.
+abbrev pub failureOf : Answer → Failure
+failureOf a = record { refusal = a .refusal; atom = a .atom }
 
+abbrev pub ReplayAnswers : List ℕ → List ℕ → List ℕ → List ℕ → Replayed → Type 0
+ReplayAnswers shop sheet trace room c = AnswersFirst (replayQuestions shop sheet trace room) (failureOf (c .answer)) (Refuses room c)
+
+-- The search answers number and place too: its questions, 43 among them, name no atom.
 abbrev pub SearchAnswers : List ℕ → List ℕ → ℕ → List ℕ → Searched → Type 0
-SearchAnswers shop sheet depth room c = AnswersFirst (searchQuestions shop sheet depth room) (c .refusal) (c .room ≡ room)
+SearchAnswers shop sheet depth room c =
+    AnswersFirst (searchQuestions shop sheet depth room) (withoutAtom (c .refusal)) (c .room ≡ room)
 
 pub record Demand1 : Type 0 where
   pub of-shop-check : (shop : List ℕ) (a : Refusal) → a ≡ answered (checkShop shop) → ShopCheckAnswers shop a
@@ -281,7 +289,68 @@ pub record Demand3OfReplays : Type 0 where
   pub calls-are-there : (shop first second trace : List ℕ)
       → checkTrace shop first trace ≡ passed → checkTrace shop second trace ≡ passed → CallsAreThere shop first second trace
 
--- The three demands.
+-- Document 02, Req 01. "The test of needs and of goals now tells the first atom that isn't as wanted, where it said only yes or no. For a
+-- goal with alternatives it is the first unmet row of the first alternative. The replay's answer gains an atom field, 256 for "none"; only
+-- 29 and 30 fill it."
+
+-- An atom is named exactly where 29 or 30 is told, and it is one of the shop's.
+pub record NamesUnmet (shop : List ℕ) (c : Replayed) : Type 0 where
+  pub named-iff : (c .answer .atom ≢ noAtom) ↔ ((c .answer .refusal .number ≡ 29) ⊎ (c .answer .refusal .number ≡ 30))
+  pub below : c .answer .atom ≢ noAtom → c .answer .atom < atomCount shop
+
+abbrev pub UnmetIsNamed : Type 0
+UnmetIsNamed = (shop sheet trace room : List ℕ) (c : Replayed) → c ≡ replay shop sheet trace room → NamesUnmet shop c
+
+-- Some literals that all hold, then one of this atom that does not, then others.
+pub record FirstUnmet (s : State) (ls : List Literal) (atom : ℕ) : Type 0 where
+  pub before : List Literal
+  pub literal : Literal
+  pub behind : List Literal
+  pub listed : ls ≡ before ++ (literal ∷ behind)
+  pub held : EntailsAll s before
+  pub not-held : ¬ Entails s literal
+  pub atom-is : literal .atom ≡ atom
+
+-- The move is an action or a method, and its needs fall apart in that way.
+pub data NeedsUnmet (d : Domain) (s : State) (atom : ℕ) : Move → Type 0 where
+  of-action : (k : ℕ) → FirstUnmet s (actionAt d k .needs) atom → NeedsUnmet d s atom (act k)
+  of-method : (m : ℕ) → FirstUnmet s (methodAt d m .needs) atom → NeedsUnmet d s atom (use-method m)
+
+-- No alternative of the goal holds, and the first falls apart in that way.
+pub record GoalUnmet (s : State) (g : Formula) (atom : ℕ) : Type 0 where
+  pub none-holds : ¬ Satisfies s g
+  pub alternative : List Literal
+  pub others : List (List Literal)
+  pub alternatives : g ≡ alternative ∷ others
+  pub unmet : FirstUnmet s alternative atom
+
+-- What the two tests tell by themselves, of every state, also where no replay asks them: none where all literals hold, where the goal holds by
+-- whichever alternative, and of a goal without alternatives; else the atom at which the literals, or the first alternative, fall apart.
+pub record TestsTellFirst : Type 0 where
+  pub none-is-256 : noAtom ≡ 256
+  pub needs-hold : (s : State) (ls : List Literal) → EntailsAll s ls → unmet s ls ≡ noAtom
+  pub needs-fail : (s : State) (ls : List Literal) (atom : ℕ) → FirstUnmet s ls atom → unmet s ls ≡ atom
+  pub goal-holds : (s : State) (g : Formula) → Satisfies s g → unmetGoal s g ≡ noAtom
+  pub goal-fails : (s : State) (g : Formula) (atom : ℕ) → GoalUnmet s g atom → unmetGoal s g ≡ atom
+  pub no-alternatives : (s : State) → unmetGoal s [] ≡ noAtom
+
+-- Exactly the first `i` steps of the trace lead to this problem, and this is step `i`.
+pub record StepReached (shop sheet trace : List ℕ) (i : ℕ) (P : Problem) (x : Step) : Type 0 where
+  pub reached : Reached (rulesOf shop) (problemOf (order sheet)) (take i (stepsOf trace)) P
+  pub is-step : At (stepsOf trace) i x
+
+pub record TellsFirstUnmet (shop sheet trace : List ℕ) (c : Replayed) : Type 0 where
+  pub by-30 : c .answer .refusal .number ≡ 30
+      → (P : Problem) × (x : Step) × StepReached shop sheet trace (c .answer .refusal .place) P x
+      × NeedsUnmet (domain shop) (P .state) (c .answer .atom) (moveOf (domain shop) (x .move))
+  pub by-29 : c .answer .refusal .number ≡ 29
+      → (P : Problem) × (x : Step) × StepReached shop sheet trace (c .answer .refusal .place) P x
+      × (moveOf (domain shop) (x .move) ≡ release) × GoalUnmet (P .state) (goalAt (P .waiting) (x .place) .formula) (c .answer .atom)
+
+abbrev pub UnmetIsFirst : Type 0
+UnmetIsFirst = (shop sheet trace room : List ℕ) (c : Replayed) → c ≡ replay shop sheet trace room → TellsFirstUnmet shop sheet trace c
+
+-- The three demands, and what Req 01 adds.
 pub record Promised : Type 1 where
   pub demand-1 : Demand1
   pub demand-2 : Demand2
@@ -289,3 +358,6 @@ pub record Promised : Type 1 where
   pub search-agrees-with-replay : SearchAgreesWithReplay
   pub demand-3 : Demand3
   pub demand-3-of-replays : Demand3OfReplays
+  pub unmet-is-named : UnmetIsNamed
+  pub unmet-is-first : UnmetIsFirst
+  pub tests-tell-first : TestsTellFirst

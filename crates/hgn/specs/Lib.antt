@@ -1,17 +1,18 @@
 -- The definitions, in document 01's order, by its sections.
--- What all of them use: lists, and questions with their first no.
+-- What all of them use: lists.
 pub mod Lists
-pub mod Questions
 -- "The three sheets": their rows, and what they mean.
 pub mod Tag
 pub mod Rows
 pub mod Meaning
--- "How a derivation runs", with the questions 25 to 33 in `Run`.
+-- "How a derivation runs", with what questions are and tell, and the questions 25 to 33 in `Run`.
 pub mod State
+pub mod Questions
 pub mod Network
 pub mod Run
 pub mod Join
 -- "Questions, and the number when the answer is no", with the sizes of each sheet from "The three sheets".
+pub mod RowQuestions
 pub mod Shop
 pub mod Order
 pub mod Trace

@@ -5,7 +5,8 @@ use mathlib.Core.List.{List, [], _∷_, _++_}
 use lib.Dec.{eqb, leb}
 use lib.ListN.{length}
 use Rattle.hgn.specs.Questions.{Question, _asks_, Verdict, firstNo}
-use Rattle.hgn.specs.Rows.{Row, word, rowsOf, mostRows, rowQuestions, positionAfter}
+use Rattle.hgn.specs.Rows.{Row, word, rowsOf, mostRows}
+use Rattle.hgn.specs.RowQuestions.{rowQuestions, positionAfter}
 use Rattle.hgn.specs.Tag.{orderFollow, opening, mayEnd}
 use Rattle.hgn.specs.Meaning.{Order, orderOf}
 use Rattle.hgn.specs.Shop

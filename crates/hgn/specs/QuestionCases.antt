@@ -1,8 +1,8 @@
 -- A case for each question of document 01, "Questions", but 27: sheets at which it is answered no, and where that can be the question behind
--- it too, with the number and the place that are told. Then replays and searches that tell apart what the marked cases do not. 27 has none:
--- a node is listed after lower ones only and a method's nodes enter before their goal, so the first goal of every list that a replay comes to
--- is free, which is not proved here.
-use Prim.Native.Nat.{ℕ, zero, suc}
+-- it too, with the number and the place that are told. Then replays, with the atom that each names, and searches that tell apart what the
+-- marked cases do not. 27 has none: a node is listed after lower ones only and a method's nodes enter before their goal, so the first goal of
+-- every list that a replay comes to is free, which is not proved here.
+use Prim.Native.Nat.{ℕ, zero, suc, _+_}
 use mathlib.Core.Path.{_≡_}
 use mathlib.Core.Bool.{not, _&&_}
 use mathlib.Core.List.{List, [], _∷_, _++_, map}
@@ -255,6 +255,30 @@ heldOrder = (1 ∷ 1 ∷ 4 ∷ []) ++ (12 ∷ 7 ∷ 8 ∷ 9 ∷ []) ++ repeated 
 abbrev pub equalShop : List ℕ
 equalShop = (1 ∷ 2 ∷ 0 ∷ 4 ∷ []) ++ (1 ∷ 5 ∷ 1 ∷ 5 ∷ []) ++ repeated 4 (0 ∷ [])
 
+-- Four atoms. An action that needs atoms 0 and 1 true and atom 2 false and makes atom 3 true; a method that needs atom 1 true, for atom 3.
+abbrev pub threeNeeds : List ℕ
+threeNeeds = (4 ∷ 1 ∷ 1 ∷ 10 ∷ []) ++ (1 ∷ 3 ∷ 3 ∷ 4 ∷ 5 ∷ 2 ∷ 3 ∷ 7 ∷ 8 ∷ 9 ∷ []) ++ (0 ∷ 0 ∷ 1 ∷ 2 ∷ 3 ∷ 0 ∷ 1 ∷ 0 ∷ 0 ∷ 3 ∷ [])
+
+-- One atom, and an action that needs it true and makes it true.
+abbrev pub ownNeed : List ℕ
+ownNeed = (1 ∷ 1 ∷ 0 ∷ 3 ∷ []) ++ (1 ∷ 3 ∷ 5 ∷ []) ++ repeated 3 (0 ∷ [])
+
+-- An order of one goal with these atoms true at first: atom 3; or "0 and 1, or 2".
+abbrev pub wantThree : List ℕ → List ℕ
+wantThree start =
+    (4 ∷ 1 ∷ (length start + 3) ∷ []) ++ repeated (length start) (12 ∷ []) ++ (7 ∷ 8 ∷ 9 ∷ []) ++ start ++ (0 ∷ 0 ∷ 3 ∷ [])
+
+abbrev pub wantPairOrTwo : List ℕ → List ℕ
+wantPairOrTwo start =
+    (4 ∷ 1 ∷ (length start + 6) ∷ []) ++ repeated (length start) (12 ∷ []) ++ (7 ∷ 8 ∷ 9 ∷ 9 ∷ 8 ∷ 9 ∷ []) ++ start ++ (0 ∷ 0 ∷ 0 ∷ 1 ∷ 0 ∷ 2 ∷ [])
+
+-- 256 atoms and nothing to do with them; one goal, the last of them.
+abbrev pub manyAtoms : List ℕ
+manyAtoms = 256 ∷ 0 ∷ 0 ∷ 0 ∷ []
+
+abbrev pub wantLastAtom : List ℕ
+wantLastAtom = (256 ∷ 1 ∷ 3 ∷ []) ++ (7 ∷ 8 ∷ 9 ∷ []) ++ (0 ∷ 0 ∷ 255 ∷ [])
+
 -- A trace that is accepted.
 abbrev pub acceptedCase : List ℕ → List ℕ → List ℕ → ℕ → List ℕ → ℕ → ℕ → List ℕ → Case
 acceptedCase shop order trace steps atoms count cost room = record {
@@ -266,55 +290,79 @@ acceptedCase shop order trace steps atoms count cost room = record {
   atoms = atoms;
   count = count;
   cost = cost;
+  atom = 256;
   room = room;
 }
 
 abbrev pub stepCases : List Case
 stepCases =
     -- 13 steps in a room of 12 words, the first past the last place: 24 before 25.
-    coreRefused ((13 ∷ []) ++ repeated 13 (0 ∷ []) ++ repeated 13 (9 ∷ [])) 24 0
+    coreRefused ((13 ∷ []) ++ repeated 13 (0 ∷ []) ++ repeated 13 (9 ∷ [])) 24 0 256
     -- Step 1, behind method 0: past the last place, by an unknown move: 25 before 26. At place 4, which is not free, by an unknown move: 26
     -- before 28. There by action 2, whose needs do not hold: 28 before 30.
-    ∷ coreRefused ((2 ∷ []) ++ (256 ∷ 5 ∷ []) ++ (0 ∷ 9 ∷ [])) 25 1
-    ∷ coreRefused ((2 ∷ []) ++ (256 ∷ 5 ∷ []) ++ (0 ∷ 4 ∷ [])) 26 1
-    ∷ coreRefused ((2 ∷ []) ++ (256 ∷ 2 ∷ []) ++ (0 ∷ 4 ∷ [])) 28 1
+    ∷ coreRefused ((2 ∷ []) ++ (256 ∷ 5 ∷ []) ++ (0 ∷ 9 ∷ [])) 25 1 256
+    ∷ coreRefused ((2 ∷ []) ++ (256 ∷ 5 ∷ []) ++ (0 ∷ 4 ∷ [])) 26 1 256
+    ∷ coreRefused ((2 ∷ []) ++ (256 ∷ 2 ∷ []) ++ (0 ∷ 4 ∷ [])) 28 1 256
     -- The numbers before method 0 and behind the last method are no moves.
-    ∷ coreRefused (1 ∷ 255 ∷ 0 ∷ []) 26 0
-    ∷ coreRefused (1 ∷ 257 ∷ 0 ∷ []) 26 0
+    ∷ coreRefused (1 ∷ 255 ∷ 0 ∷ []) 26 0 256
+    ∷ coreRefused (1 ∷ 257 ∷ 0 ∷ []) 26 0 256
     -- Action 2, whose needs do not hold, and which is not relevant to atom 3: 30 before 31.
-    ∷ coreRefused (1 ∷ 2 ∷ 0 ∷ []) 30 0
+    ∷ coreRefused (1 ∷ 2 ∷ 0 ∷ []) 30 0 0
     -- A need of an atom false, which is true; a goal that wants it false.
-    ∷ refusedCase falseShop wantTrue (1 ∷ 1 ∷ 0 ∷ []) 30 0
-    ∷ refusedCase falseShop wantFalse (1 ∷ 0 ∷ 0 ∷ []) 29 0
+    ∷ refusedCase falseShop wantTrue (1 ∷ 1 ∷ 0 ∷ []) 30 0 0
+    ∷ refusedCase falseShop wantFalse (1 ∷ 0 ∷ 0 ∷ []) 29 0 0
     -- The long core's method at a goal that it is not relevant to.
-    ∷ refusedCase coreShop barkOrder (1 ∷ 256 ∷ 0 ∷ []) 31 0
+    ∷ refusedCase coreShop barkOrder (1 ∷ 256 ∷ 0 ∷ []) 31 0 256
     -- Action 1 alone: its own cost.
     ∷ acceptedCase coreShop barkOrder ((2 ∷ []) ++ (1 ∷ 0 ∷ []) ++ (0 ∷ 0 ∷ [])) 2 (0 ∷ []) 1 3 (1 ∷ 91 ∷ 92 ∷ 93 ∷ 94 ∷ 95 ∷ 96 ∷ 97 ∷ 98 ∷ 99 ∷ 100 ∷ 101 ∷ [])
     -- An action relevant by the third alternative, and the goal held by it.
     ∷ acceptedCase thirdShop thirdOrder ((2 ∷ []) ++ (1 ∷ 0 ∷ []) ++ (0 ∷ 0 ∷ [])) 2 (2 ∷ []) 1 3 (1 ∷ 91 ∷ 92 ∷ 93 ∷ 94 ∷ 95 ∷ 96 ∷ 97 ∷ 98 ∷ 99 ∷ 100 ∷ 101 ∷ [])
     -- The method at place 1: its nodes enter there, behind the other goal. Action 1 for its first node, at place 1; the second, at place 2, is
     -- not free. Or a release of the other goal at place 0, then of the first node, which is there now, and action 2 for the second.
-    ∷ refusedCase coreShop pairOrder ((3 ∷ []) ++ (256 ∷ 1 ∷ 0 ∷ []) ++ (1 ∷ 1 ∷ 2 ∷ [])) 28 2
-    ∷ refusedCase coreShop pairOrder ((5 ∷ []) ++ (256 ∷ 1 ∷ 0 ∷ 0 ∷ 2 ∷ []) ++ (1 ∷ 1 ∷ 0 ∷ 0 ∷ 0 ∷ [])) 33 5
+    ∷ refusedCase coreShop pairOrder ((3 ∷ []) ++ (256 ∷ 1 ∷ 0 ∷ []) ++ (1 ∷ 1 ∷ 2 ∷ [])) 28 2 256
+    ∷ refusedCase coreShop pairOrder ((5 ∷ []) ++ (256 ∷ 1 ∷ 0 ∷ 0 ∷ 2 ∷ []) ++ (1 ∷ 1 ∷ 0 ∷ 0 ∷ 0 ∷ [])) 33 5 256
     -- The method's last node, which has no 11 row, is not free while its others wait.
-    ∷ coreRefused ((2 ∷ []) ++ (256 ∷ 0 ∷ []) ++ (0 ∷ 3 ∷ [])) 28 1
+    ∷ coreRefused ((2 ∷ []) ++ (256 ∷ 0 ∷ []) ++ (0 ∷ 3 ∷ [])) 28 1 256
     -- A method used twice: the nodes of the second use are freed by each other's release alone, and the goals of the first still wait.
-    ∷ refusedCase twiceShop twiceOrder ((4 ∷ []) ++ (256 ∷ 256 ∷ 0 ∷ 0 ∷ []) ++ (0 ∷ 3 ∷ 3 ∷ 3 ∷ [])) 33 4
+    ∷ refusedCase twiceShop twiceOrder ((4 ∷ []) ++ (256 ∷ 256 ∷ 0 ∷ 0 ∷ []) ++ (0 ∷ 3 ∷ 3 ∷ 3 ∷ [])) 33 4 256
     -- A method whose need does not hold; and which is not relevant either: 30 before 31.
-    ∷ refusedCase needingShop wantOne (1 ∷ 256 ∷ 0 ∷ []) 30 0
-    ∷ refusedCase needingOther wantFirst (1 ∷ 256 ∷ 0 ∷ []) 30 0
+    ∷ refusedCase needingShop wantOne (1 ∷ 256 ∷ 0 ∷ []) 30 0 0
+    ∷ refusedCase needingOther wantFirst (1 ∷ 256 ∷ 0 ∷ []) 30 0 0
     -- An action relevant by what it makes false; and one that is not, since it makes false what is wanted true.
     ∷ acceptedCase clearShop wantClear ((2 ∷ []) ++ (1 ∷ 0 ∷ []) ++ (0 ∷ 0 ∷ [])) 2 [] 1 0 (1 ∷ 91 ∷ 92 ∷ 93 ∷ 94 ∷ 95 ∷ 96 ∷ 97 ∷ 98 ∷ 99 ∷ 100 ∷ 101 ∷ [])
-    ∷ refusedCase mixedShop wantBoth (1 ∷ 1 ∷ 0 ∷ []) 31 0
+    ∷ refusedCase mixedShop wantBoth (1 ∷ 1 ∷ 0 ∷ []) 31 0 256
     -- An alternative with no rows is always true.
     ∷ acceptedCase fullShop wantAlways (1 ∷ 0 ∷ 0 ∷ []) 1 [] 0 0 lent
     -- An action for a goal that holds already; and a method used twice at one goal, which holds already.
     ∷ acceptedCase equalShop heldOrder ((2 ∷ []) ++ (1 ∷ 0 ∷ []) ++ (0 ∷ 0 ∷ [])) 2 (0 ∷ []) 1 0 (1 ∷ 91 ∷ 92 ∷ 93 ∷ 94 ∷ 95 ∷ 96 ∷ 97 ∷ 98 ∷ 99 ∷ 100 ∷ 101 ∷ [])
     ∷ acceptedCase fullShop heldOrder ((5 ∷ []) ++ (256 ∷ 0 ∷ 256 ∷ 0 ∷ 0 ∷ []) ++ repeated 5 (0 ∷ [])) 5 (0 ∷ []) 0 0 lent
     -- A method of one node where 63 wait: it is used, and 64 wait; where 64 wait: 32; and where it is not relevant either: 31 before 32.
-    ∷ refusedCase fullShop lessThanFullOrder (1 ∷ 256 ∷ 0 ∷ []) 33 1
-    ∷ refusedCase fullShop fullOrder (1 ∷ 256 ∷ 0 ∷ []) 32 0
-    ∷ refusedCase fullShop wantNothing (1 ∷ 256 ∷ 0 ∷ []) 31 0
+    ∷ refusedCase fullShop lessThanFullOrder (1 ∷ 256 ∷ 0 ∷ []) 33 1 256
+    ∷ refusedCase fullShop fullOrder (1 ∷ 256 ∷ 0 ∷ []) 32 0 256
+    ∷ refusedCase fullShop wantNothing (1 ∷ 256 ∷ 0 ∷ []) 31 0 256
+    -- The unmet need is the first row alone, the second, the last, which wants an atom false, or the first of two or three; a method's need,
+    -- not its node's; a need that the action itself would meet; and a method's need where more goals would wait than may: 30 before 32.
+    ∷ refusedCase threeNeeds (wantThree (1 ∷ [])) (1 ∷ 1 ∷ 0 ∷ []) 30 0 0
+    ∷ refusedCase threeNeeds (wantThree []) (1 ∷ 1 ∷ 0 ∷ []) 30 0 0
+    ∷ refusedCase threeNeeds (wantThree (0 ∷ [])) (1 ∷ 1 ∷ 0 ∷ []) 30 0 1
+    ∷ refusedCase threeNeeds (wantThree (0 ∷ 1 ∷ 2 ∷ [])) (1 ∷ 1 ∷ 0 ∷ []) 30 0 2
+    ∷ refusedCase threeNeeds (wantThree (0 ∷ 2 ∷ [])) (1 ∷ 1 ∷ 0 ∷ []) 30 0 1
+    ∷ refusedCase threeNeeds (wantThree (2 ∷ [])) (1 ∷ 1 ∷ 0 ∷ []) 30 0 0
+    ∷ refusedCase threeNeeds (wantThree (0 ∷ [])) (1 ∷ 256 ∷ 0 ∷ []) 30 0 1
+    ∷ refusedCase ownNeed wantOne (1 ∷ 1 ∷ 0 ∷ []) 30 0 0
+    ∷ refusedCase needingShop fullOrder (1 ∷ 256 ∷ 0 ∷ []) 30 0 0
+    -- The unmet row of the first alternative is told, its first or its second, where the second alternative wants one atom only; the first of
+    -- three; that of the goal at the step's place; and none where the second alternative holds.
+    ∷ refusedCase threeNeeds (wantPairOrTwo []) (1 ∷ 0 ∷ 0 ∷ []) 29 0 0
+    ∷ refusedCase threeNeeds (wantPairOrTwo (0 ∷ [])) (1 ∷ 0 ∷ 0 ∷ []) 29 0 1
+    ∷ refusedCase thirdShop thirdOrder (1 ∷ 0 ∷ 0 ∷ []) 29 0 0
+    ∷ refusedCase coreShop pairOrder (1 ∷ 0 ∷ 1 ∷ []) 29 0 3
+    ∷ acceptedCase threeNeeds (wantPairOrTwo (2 ∷ [])) (1 ∷ 0 ∷ 0 ∷ []) 1 (2 ∷ []) 0 0 lent
+    -- Behind method 0, at its first node: action 2 needs what the node wants, and a release wants it.
+    ∷ coreRefused ((2 ∷ []) ++ (256 ∷ 2 ∷ []) ++ (0 ∷ 0 ∷ [])) 30 1 0
+    ∷ coreRefused ((2 ∷ []) ++ (256 ∷ 0 ∷ []) ++ (0 ∷ 0 ∷ [])) 29 1 0
+    -- The last of 256 atoms.
+    ∷ refusedCase manyAtoms wantLastAtom (1 ∷ 0 ∷ 0 ∷ []) 29 0 255
     ∷ []
 
 -- A search's sheets, depth and room, and what it answers and leaves.

@@ -10,7 +10,7 @@ use mathlib.Core.List.{List, [], _∷_, _++_, map, List·Memᴰ}
 use lib.ListN.{length, getD}
 use mathlib.Core.Option.{Option, none, some}
 use Rattle.hgn.specs.Lists.{At, range}
-use Rattle.hgn.specs.Questions.{Refusal, passed}
+use Rattle.hgn.specs.Questions.{Failure, passed}
 use Rattle.hgn.specs.Questions as Questions
 use Rattle.hgn.specs.Tag.{mostCost}
 use Rattle.hgn.specs.Meaning.{Literal, Formula, Node, Action, Method, Domain, Order, lastOf, goalOf, networkOf}
@@ -42,7 +42,7 @@ pub record AcceptedIsDerivation : Type 1 where
 
 -- The step is refused by the question of this number.
 abbrev pub RefusedBy : ℕ → Stepped → Type 0
-RefusedBy number o = (q : Refusal) × (o ≡ refused q) × (q .number ≡ number)
+RefusedBy number o = (f : Failure) × (o ≡ refused f) × (f .refusal .number ≡ number)
 
 -- The order of a step's questions, whatever its number and the problem.
 pub record StepOrder (r : Rules) (n : ℕ) (P : Problem) (x : Step) : Type 0 where
@@ -76,7 +76,7 @@ pub record StepOrder (r : Rules) (n : ℕ) (P : Problem) (x : Step) : Type 0 whe
 
 -- The order of a replay's questions: those of the sheets first, shop, order, trace; 23 before 24, and 24 before 25.
 pub record ReplayOrder (shop sheet trace room : List ℕ) : Type 0 where
-  pub sheets-first : (q : Refusal) → checkTrace shop sheet trace ≡ Questions.refused q → replay shop sheet trace room .answer .refusal ≡ q
+  pub sheets-first : (f : Failure) → checkTrace shop sheet trace ≡ Questions.refused f → replay shop sheet trace room .answer .refusal ≡ f .refusal
   pub size-before-room : checkOrder shop sheet ≡ passed → 1 ≤ length trace → stepCount trace ≤ mostSteps
       → length trace ≢ sizeWords + 2 * stepCount trace → length room < stepCount trace
       → replay shop sheet trace room .answer .refusal .number ≡ 23
@@ -86,7 +86,7 @@ pub record ReplayOrder (shop sheet trace room : List ℕ) : Type 0 where
 
 -- The order of a search's questions: those of the sheets first, so 18 before 41; 41 before 42, 42 before 43.
 pub record SearchOrder (shop sheet : List ℕ) (depth : ℕ) (room : List ℕ) : Type 0 where
-  pub sheets-first : (q : Refusal) → checkOrder shop sheet ≡ Questions.refused q → search shop sheet depth room .refusal ≡ q
+  pub sheets-first : (f : Failure) → checkOrder shop sheet ≡ Questions.refused f → search shop sheet depth room .refusal ≡ f .refusal
   pub depth-before-room : checkOrder shop sheet ≡ passed → mostDepth < depth → length room < sizeWords + 2 * depth
       → search shop sheet depth room .refusal .number ≡ 41
   pub room-before-none : checkOrder shop sheet ≡ passed → depth ≤ mostDepth → length room < sizeWords + 2 * depth

@@ -1,11 +1,12 @@
--- The replay's whole answer and what the lent room holds at exit, for every four lists of words. Document 01, "Questions".
+-- The replay's whole answer and what the lent room holds at exit, for every four lists of words. Document 01, "Questions";
+-- document 02, Req 01.
 use Prim.Native.Nat.{ℕ}
 use mathlib.Core.List.{List, [], _∷_, _++_}
 use lib.Dec.{leb}
 use lib.ListN.{length, drop}
-use Rattle.hgn.specs.Questions.{Refusal, noRefusal, placed, Question, _asks_, Verdict, passed, refused, firstNo}
+use Rattle.hgn.specs.Questions.{Refusal, noRefusal, Failure, placed, Question, _asks_, Verdict, passed, refused, firstNo}
 use Rattle.hgn.specs.Meaning.{Domain}
-use Rattle.hgn.specs.State.{State, emptyState}
+use Rattle.hgn.specs.State.{State, noAtom, emptyState}
 use Rattle.hgn.specs.Network.{mostWaiting}
 use Rattle.hgn.specs.Run.{Rules, strict, problemOf, Outcome, stopped, accepted, run, runQuestions, planOf, costOf}
 use Rattle.hgn.specs.Shop.{domain, shopQuestions}
@@ -21,6 +22,7 @@ pub record Answer : Type 0 where
   pub state : State  -- the last state
   pub count : ℕ  -- the plan's length
   pub cost : ℕ
+  pub atom : ℕ  -- the first atom that is not as wanted, where 29 or 30 is told; else `noAtom`
 
 -- The answer, and the room at exit.
 pub record Replayed : Type 0 where
@@ -28,18 +30,21 @@ pub record Replayed : Type 0 where
   pub room : List ℕ
 
 -- "Refused: empty state, both counts 0, the room unchanged."
-unfoldable pub refusal : List ℕ → Refusal → Replayed
-refusal room q = record { answer = record { refusal = q; state = emptyState; count = 0; cost = 0 }; room = room }
+unfoldable pub refusal : List ℕ → Failure → Replayed
+refusal room f = record {
+  answer = record { refusal = f .refusal; state = emptyState; count = 0; cost = 0; atom = f .atom };
+  room = room;
+}
 
 -- "Accepted: number 0, place L, the plan in the first words of the lent room, later words unchanged."
 unfoldable pub acceptance : Domain → ℕ → List ℕ → List ℕ → State → Replayed
 acceptance d steps room plan s = record {
-  answer = record { refusal = placed steps noRefusal; state = s; count = length plan; cost = costOf d plan };
+  answer = record { refusal = placed steps noRefusal; state = s; count = length plan; cost = costOf d plan; atom = noAtom };
   room = plan ++ drop (length plan) room;
 }
 
 unfoldable pub reported : Domain → ℕ → List ℕ → Outcome → Replayed
-reported d steps room (stopped q) = refusal room q
+reported d steps room (stopped f) = refusal room f
 reported d steps room (accepted deeds s) = acceptance d steps room (planOf deeds) s
 
 -- The sheets' questions, then: "Room for L words of plan? 24."
@@ -53,7 +58,7 @@ checkReplay shop sheet trace room = firstNo (inputQuestions shop sheet trace roo
 
 unfoldable pub replay : List ℕ → List ℕ → List ℕ → List ℕ → Replayed
 replay shop sheet trace room = elim (checkReplay shop sheet trace room) [
-  | refused q ↦ refusal room q
+  | refused f ↦ refusal room f
   | passed ↦ reported (domain shop) (stepCount trace) room (run (rulesOf shop) 0 (problemOf (order sheet)) (stepsOf trace))
 ]
 

@@ -1,5 +1,5 @@
 -- Problems, the rules of a run, one step with the questions 25 to 32, and a run with question 33.
--- Document 01, "How a derivation runs" and "Questions"; source document 000, "Solutions to HGN Planning Problems".
+-- Document 01, "How a derivation runs" and "Questions"; document 02, Req 01; source document 000, "Solutions to HGN Planning Problems".
 use Prim.Native.Nat.{ℕ, suc, _+_, _-_}
 use mathlib.Core.Path.{_≡_}
 use mathlib.Core.Bool.{Bool, true, false, cond, _&&_}
@@ -7,10 +7,10 @@ use mathlib.Core.Logic.{_↔_}
 use mathlib.Core.List.{List, [], _∷_, _++_}
 use lib.Dec.{eqb, leb, ltb}
 use lib.ListN.{length, getD}
-use Rattle.hgn.specs.Questions.{Refusal, Question, _asks_, placed, allAt, passed, firstNo}
+use Rattle.hgn.specs.Questions.{Failure, Question, _asks_, _naming_, failedAt, allAt, passed, firstNo}
 use Rattle.hgn.specs.Questions as Questions
 use Rattle.hgn.specs.Meaning.{Formula, Action, Method, Domain, Order, goalOf, networkOf}
-use Rattle.hgn.specs.State.{State, emptyState, assign, γ, allHold, formulaHolds, relevant, Relevant}
+use Rattle.hgn.specs.State.{State, emptyState, assign, γ, allHold, formulaHolds, unmet, unmetGoal, relevant, Relevant}
 use Rattle.hgn.specs.Network.{Waiting, from-step, free, anyFree, goalsOf, goalAt, released, decomposed}
 
 -- A planning problem of 000 less its domain: the state, and the goal network as the waiting list.
@@ -109,7 +109,7 @@ strict limit d = record {
 }
 
 -- What a move at place `p`, in step `n`, makes of a problem. "State becomes (state less made false) with made true; the waiting list is
--- unchanged", of an action; of a method, "its nodes enter directly before that goal".
+-- unchanged", of an action; of a method, "Its nodes enter directly before that goal".
 unfoldable pub moved : Domain → ℕ → Problem → ℕ → Move → Problem
 moved d n P p release = record { state = P .state; waiting = released (P .waiting) p }
 moved d n P p (act k) = record { state = γ (P .state) (actionAt d k .effects); waiting = P .waiting }
@@ -117,15 +117,17 @@ moved d n P p (use-method m) = record { state = P .state; waiting = decomposed (
 moved d n P p unknown = P
 
 -- A move's own questions, at the goal of place `p`. "For a release, does it hold? 29. For the others: needs hold? 30. Relevant? 31. For a
--- method, at most 64 waiting afterwards? 32."
+-- method, at most 64 waiting afterwards? 32." Document 02, Req 01: "only 29 and 30 fill" the atom.
 unfoldable pub ownQuestions : Rules → ℕ → Problem → ℕ → Move → List Question
-ownQuestions r n P p release = 29 asks formulaHolds (P .state) (goalAt (P .waiting) p .formula) ∷ []
+ownQuestions r n P p release =
+    29 asks formulaHolds (P .state) (goalAt (P .waiting) p .formula) naming unmetGoal (P .state) (goalAt (P .waiting) p .formula)
+    ∷ []
 ownQuestions r n P p (act k) =
-    30 asks allHold (P .state) (actionAt (r .domain) k .needs)
+    30 asks allHold (P .state) (actionAt (r .domain) k .needs) naming unmet (P .state) (actionAt (r .domain) k .needs)
     ∷ 31 asks r .mayAct (actionAt (r .domain) k) (goalAt (P .waiting) p .formula)
     ∷ []
 ownQuestions r n P p (use-method m) =
-    30 asks allHold (P .state) (methodAt (r .domain) m .needs)
+    30 asks allHold (P .state) (methodAt (r .domain) m .needs) naming unmet (P .state) (methodAt (r .domain) m .needs)
     ∷ 31 asks r .mayUse (methodAt (r .domain) m) (goalAt (P .waiting) p .formula)
     ∷ 32 asks leb (length (moved (r .domain) n P p (use-method m) .waiting)) (r .limit)
     ∷ []
@@ -152,26 +154,26 @@ deedOf P p (act k) = takes k
 deedOf P p (use-method m) = uses m (goalAt (P .waiting) p)
 deedOf P p unknown = releases []
 
--- What a step comes to: the first of its questions that is answered no, or what it did and the problem that it leaves.
+-- What a step comes to: what the first of its questions that is answered no tells, or what it did and the problem that it leaves.
 pub data Stepped : Type 0 where
-  refused : Refusal → Stepped
+  refused : Failure → Stepped
   taken : Deed → Problem → Stepped
 
 unfoldable pub stepped : Rules → ℕ → Problem → Step → Stepped
 stepped r n P x = elim (firstNo (stepQuestions r n P x)) [
-  | Questions.refused q ↦ refused q
+  | Questions.refused f ↦ refused f
   | passed ↦
       taken (deedOf P (x .place) (moveOf (r .domain) (x .move))) (moved (r .domain) n P (x .place) (moveOf (r .domain) (x .move)))
 ]
 
--- What a run comes to: the first question that is answered no, or what its steps did and the last state.
+-- What a run comes to: what the first question that is answered no tells, or what its steps did and the last state.
 pub data Outcome : Type 0 where
-  stopped : Refusal → Outcome
+  stopped : Failure → Outcome
   accepted : List Deed → State → Outcome
 
 -- What a step did, in front of what the rest of the run did.
 unfoldable pub prepend : Deed → Outcome → Outcome
-prepend deed (stopped q) = stopped q
+prepend deed (stopped f) = stopped f
 prepend deed (accepted deeds s) = accepted (deed ∷ deeds) s
 
 -- "After the last step: nothing waiting? 33 (at L)."
@@ -180,7 +182,7 @@ endQuestions P = 33 asks eqb (length (P .waiting)) 0 ∷ []
 
 unfoldable pub ended : ℕ → Problem → Outcome
 ended n P = elim (firstNo (allAt n (endQuestions P))) [
-  | Questions.refused q ↦ stopped q
+  | Questions.refused f ↦ stopped f
   | passed ↦ accepted [] (P .state)
 ]
 
@@ -188,7 +190,7 @@ ended n P = elim (firstNo (allAt n (endQuestions P))) [
 unfoldable pub runBy : (ℕ → Problem → Step → Stepped) → ℕ → Problem → List Step → Outcome
 runBy next n P [] = ended n P
 runBy next n P (x ∷ xs) = elim (next n P x) [
-  | refused q ↦ stopped (placed n q)
+  | refused f ↦ stopped (failedAt n f)
   | taken deed P′ ↦ prepend deed (runBy next (suc n) P′ xs)
 ]
 

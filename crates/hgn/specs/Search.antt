@@ -100,6 +100,6 @@ searchQuestions shop sheet depth room =
 
 unfoldable pub search : List ℕ → List ℕ → ℕ → List ℕ → Searched
 search shop sheet depth room = elim (firstNo (searchQuestions shop sheet depth room)) [
-  | Questions.refused q ↦ noTrace room q
+  | Questions.refused f ↦ noTrace room (f .refusal)
   | passed ↦ written room (stepsFound (searched shop sheet depth))
 ]

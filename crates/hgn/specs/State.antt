@@ -1,10 +1,10 @@
--- States, what holds in them, what an action makes of them, and relevance: each as a test, which a step asks, and as a proposition, in
--- which Definition 1 is written. Document 01, "How a derivation runs"; source document 000, "Domain-Independent Planning" and
--- "Goal Networks and HGN Methods".
+-- States, what holds in them, what an action makes of them, and relevance: each as a test, which a step asks, and as a proposition, in which
+-- Definition 1 is written; and the first atom that is not as wanted, of which `Demands` has the proposition. Document 01, "How a derivation runs"; document 02, Req 01; source document 000,
+-- "Domain-Independent Planning" and "Goal Networks and HGN Methods".
 use Prim.Native.Nat.{ℕ}
 use mathlib.Core.Path.{_≡_}
 use mathlib.Core.Bool.{Bool, true, false, not, cond, _&&_, Bool·beq}
-use mathlib.Core.List.{List, [], _∷_, flatten, List·Memᴰ}
+use mathlib.Core.List.{List, [], _∷_, headD, flatten, List·Memᴰ}
 use lib.Dec.{eqb}
 use lib.ListN.{getD, set, replicate}
 use Rattle.hgn.specs.Lists.{any, all}
@@ -17,6 +17,10 @@ State = List Bool
 -- The most atoms a shop sheet can have.
 abbrev pub mostAtoms : ℕ
 mostAtoms = 256
+
+-- What stands for an atom where none is named: the first number that is no atom of any shop sheet.
+abbrev pub noAtom : ℕ
+noAtom = mostAtoms
 
 unfoldable pub emptyState : State
 emptyState = replicate mostAtoms false
@@ -46,6 +50,17 @@ formulaHolds s f = any (allHold s) f
 
 abbrev pub Satisfies : State → Formula → Type 0
 Satisfies s g = (c : List Literal) × List·Memᴰ c g × EntailsAll s c
+
+-- Document 02, Req 01: "the first atom that isn't as wanted", of literals in listed order; none where all hold.
+unfoldable pub unmet : State → List Literal → ℕ
+unmet s [] = noAtom
+unmet s (l ∷ ls) = cond (literalHolds s l) (unmet s ls) (l .atom)
+
+-- "For a goal with alternatives it is the first unmet row of the first alternative." None where one of the alternatives holds, and none
+-- for a formula without alternatives, which no checked sheet has.
+unfoldable pub unmetGoal : State → Formula → ℕ
+unfolding headD
+unmetGoal s f = cond (formulaHolds s f) noAtom (unmet s (headD f []))
 
 -- The atoms of the literals with this sign.
 unfoldable pub atomsOf : Bool → List Literal → List ℕ

@@ -11,14 +11,15 @@ use lib.ListN.{length, length-map}
 use borrow.Author.Tests.{eq-eqb, ne-eqb, eqb-true, le-leb, lt-leb, leb-true}
 use Rattle.hgn.specs.Lists.{elem, any, splitAtEach, takeUntil}
 use Rattle.hgn.specs.Questions.{Question, _asks_, _askedAt_, Verdict, passed, refused, firstNo}
-use Rattle.hgn.specs.Rows.{Row, mostRows, has, rowQuestions, positionAfter}
+use Rattle.hgn.specs.Rows.{Row, mostRows, has}
+use Rattle.hgn.specs.RowQuestions.{rowQuestions, positionAfter}
 use Rattle.hgn.specs.Tag as Tag
 use Rattle.hgn.specs.Meaning.{nodesOf, nodeOf, orderOf}
 use Rattle.hgn.specs.Shop as Shop
 use Rattle.hgn.specs.Order as Order
 use Rattle.hgn.specs.Trace as Trace
 use Rattle.hgn.proofs.Questions.FirstNo.{passed-cons, Numbers, answered-passed, answered-on}
-use Rattle.hgn.proofs.Questions.Numbers.{rows-numbers}
+use Rattle.hgn.proofs.Questions.Numbers.{rows-numbers, not-zero}
 use Rattle.sheet_rows.specs.Reading.{followOf, firstQuestionOf, positionOf}
 use Rattle.sheet_rows.specs.Refusals.{refusalOf}
 use Rattle.sheet_check.specs.PartCounts.{invalidIn, closed}
@@ -31,10 +32,10 @@ use Rattle.sheet_check.proofs.Counts.{actions-counted, methods-counted,
 use Rattle.sheet_check.proofs.Scans.{first≢0}
 
 -- No question of a row has the number 0.
-rows-numbered : (sheet : Sheet) (F : ℕ) (rows : List Row) → Numbers (λ k. k ≢ 0) (questionsOf sheet F rows)
+rows-numbered : (sheet : Sheet) (F : ℕ) (rows : List Row) → Numbers (λ k a. k ≢ 0) (questionsOf sheet F rows)
 rows-numbered sheet F rows =
     let offender = first≢0 sheet in
-    rows-numbers (λ k. k ≢ 0) (λ k l. omega arith) (followOf sheet) (firstQuestionOf sheet) F 0 Tag.opening rows (omega arith) (omega arith) (omega arith)
+    rows-numbers (λ k a. k ≢ 0) not-zero (followOf sheet) (firstQuestionOf sheet) F 0 Tag.opening rows (omega arith) (omega arith) (omega arith)
 
 -- Where the rows passed, the first no is that of what is asked after them, and the scan knows whether the sheet may end.
 module _ (sheet : Sheet) (F : ℕ) (rows : List Row) {s : Scan} (sc : Scanned sheet F rows s) (z : s .refusal .number ≡ 0) where
@@ -45,17 +46,17 @@ module _ (sheet : Sheet) (F : ℕ) (rows : List Row) {s : Scan} (sc : Scanned sh
   position-same = ap (λ (p : Tag.Position). Tag.mayEnd (p .context)) (sym (sc .position z))
 
 module _ (shop : List ℕ) where
-  pub shop-short : length shop < Shop.sizeWords → Shop.checkShop shop ≡ refused ((1 asks false) .refusal)
+  pub shop-short : length shop < Shop.sizeWords → Shop.checkShop shop ≡ refused ((1 asks false) .failure)
   unfolding Shop.checkShop Shop.shopQuestions firstNo
   shop-short h = rw (lt-leb Shop.sizeWords (length shop) h)
 
   module _ (long : Shop.sizeWords ≤ length shop) where
-    pub shop-sizes-no : Shop.sizesInRange shop ≡ false → Shop.checkShop shop ≡ refused ((2 asks false) .refusal)
+    pub shop-sizes-no : Shop.sizesInRange shop ≡ false → Shop.checkShop shop ≡ refused ((2 asks false) .failure)
     unfolding Shop.checkShop Shop.shopQuestions firstNo
     shop-sizes-no e = rw (le-leb Shop.sizeWords (length shop) long, e)
 
     module _ (sizes : Shop.sizesInRange shop ≡ true) where
-      pub shop-length-no : length shop ≢ Shop.sizeWords + 2 * Shop.rowCount shop → Shop.checkShop shop ≡ refused ((3 asks false) .refusal)
+      pub shop-length-no : length shop ≢ Shop.sizeWords + 2 * Shop.rowCount shop → Shop.checkShop shop ≡ refused ((3 asks false) .failure)
       unfolding Shop.checkShop Shop.shopQuestions firstNo
       shop-length-no e = rw (le-leb Shop.sizeWords (length shop) long, sizes, ne-eqb (length shop) (Shop.sizeWords + 2 * Shop.rowCount shop) e)
 
@@ -88,17 +89,17 @@ module _ (shop : List ℕ) (s : Scan) (sc : Scanned Of.Shop (Shop.atomCount shop
   unfolding Shop.domain
   methods-same = sym (ap (λ (t : PartCounts). t .methods) (sc .counts z) ∙ methods-counted (Shop.shopRows shop))
 
-  pub shop-end-7 : Tag.mayEnd (positionOf (s .position) .context) ≡ false → shopEnd ≡ refused ((7 asks false) .refusal)
+  pub shop-end-7 : Tag.mayEnd (positionOf (s .position) .context) ≡ false → shopEnd ≡ refused ((7 asks false) .failure)
   unfolding Shop.shopEndQuestions firstNo
   shop-end-7 e = shop-follow ∙ rw (shop-position ∙ e)
 
   module _ (ends : Tag.mayEnd (positionOf (s .position) .context) ≡ true) where
-    pub shop-end-actions : s .counts .actions ≢ Shop.actionCount shop → shopEnd ≡ refused ((8 asks false) .refusal)
+    pub shop-end-actions : s .counts .actions ≢ Shop.actionCount shop → shopEnd ≡ refused ((8 asks false) .failure)
     unfolding Shop.shopEndQuestions firstNo
     shop-end-actions e = shop-follow ∙ rw (shop-position ∙ ends, actions-same, ne-eqb (s .counts .actions) (Shop.actionCount shop) e)
 
     module _ (few : s .counts .actions ≡ Shop.actionCount shop) where
-      pub shop-end-methods : s .counts .methods ≢ Shop.methodCount shop → shopEnd ≡ refused ((8 asks false) .refusal)
+      pub shop-end-methods : s .counts .methods ≢ Shop.methodCount shop → shopEnd ≡ refused ((8 asks false) .failure)
       unfolding Shop.shopEndQuestions firstNo
       shop-end-methods e =
           shop-follow
@@ -123,7 +124,7 @@ module _ (shop : List ℕ) (s : Scan) (sc : Scanned Of.Shop (Shop.atomCount shop
           ) (sym (ap invalidIn c ∙ ap (λ (t : PartCounts). invalidIn (closed t)) (sc .counts z) ∙ rules-counted (Shop.shopRows shop)))
 
       module _ (all : s .counts .methods ≡ Shop.methodCount shop) {t : PartCounts} (c : t ≡ closed (s .counts)) where
-        pub shop-end-9 : t .invalid ≡ true → shopEnd ≡ refused ((9 asks false askedAt t .offender) .refusal)
+        pub shop-end-9 : t .invalid ≡ true → shopEnd ≡ refused ((9 asks false askedAt t .offender) .failure)
         unfolding invalidIn
         shop-end-9 e = shop-end-rules all c ∙ rw e
 
@@ -163,18 +164,18 @@ nodes-passed F i p (r ∷ rows) e =
     count false false q = refl
 
 module _ (shop order : List ℕ) where
-  pub order-short : length order < Order.sizeWords → firstNo (Order.orderQuestions shop order) ≡ refused ((11 asks false) .refusal)
+  pub order-short : length order < Order.sizeWords → firstNo (Order.orderQuestions shop order) ≡ refused ((11 asks false) .failure)
   unfolding Order.orderQuestions firstNo
   order-short h = rw (lt-leb Order.sizeWords (length order) h)
 
   module _ (long : Order.sizeWords ≤ length order) where
-    pub order-sizes-no : Order.sizesInRange shop order ≡ false → firstNo (Order.orderQuestions shop order) ≡ refused ((12 asks false) .refusal)
+    pub order-sizes-no : Order.sizesInRange shop order ≡ false → firstNo (Order.orderQuestions shop order) ≡ refused ((12 asks false) .failure)
     unfolding Order.orderQuestions firstNo
     order-sizes-no e = rw (le-leb Order.sizeWords (length order) long, e)
 
     module _ (sizes : Order.sizesInRange shop order ≡ true) where
       pub order-length-no : length order ≢ Order.sizeWords + 2 * Order.rowCount order
-          → firstNo (Order.orderQuestions shop order) ≡ refused ((13 asks false) .refusal)
+          → firstNo (Order.orderQuestions shop order) ≡ refused ((13 asks false) .failure)
       unfolding Order.orderQuestions firstNo
       order-length-no e = rw (le-leb Order.sizeWords (length order) long, sizes, ne-eqb (length order) (Order.sizeWords + 2 * Order.rowCount order) e)
 
@@ -208,12 +209,12 @@ module _ (order : List ℕ) (s : Scan) (sc : Scanned Of.Order (Order.atomCount o
       ∙ nodes-passed (Order.atomCount order) 0 Tag.opening (Order.orderRows order)
       (answered-passed _ [] (refusalOf (s .refusal)) (sc .refusal) (rows-numbered Of.Order (Order.atomCount order) (Order.orderRows order)) z) ∙ zero-add _)
 
-  pub order-end-17 : Tag.mayEnd (positionOf (s .position) .context) ≡ false → orderEnd ≡ refused ((17 asks false) .refusal)
+  pub order-end-17 : Tag.mayEnd (positionOf (s .position) .context) ≡ false → orderEnd ≡ refused ((17 asks false) .failure)
   unfolding Order.orderEndQuestions firstNo
   order-end-17 e = order-follow ∙ rw (order-position ∙ e)
 
   module _ (ends : Tag.mayEnd (positionOf (s .position) .context) ≡ true) where
-    pub order-end-18 : s .position .nodes ≢ Order.goalCount order → orderEnd ≡ refused ((18 asks false) .refusal)
+    pub order-end-18 : s .position .nodes ≢ Order.goalCount order → orderEnd ≡ refused ((18 asks false) .failure)
     unfolding Order.orderEndQuestions firstNo
     order-end-18 e = order-follow ∙ rw (order-position ∙ ends, goals-same, ne-eqb (s .position .nodes) (Order.goalCount order) e)
 
@@ -226,17 +227,17 @@ module _ (trace : List ℕ) where
   abbrev whole : ℕ
   whole = Trace.sizeWords + 2 * Trace.stepCount trace
 
-  pub trace-short : length trace < Trace.sizeWords → firstNo (Trace.traceQuestions trace) ≡ refused ((21 asks false) .refusal)
+  pub trace-short : length trace < Trace.sizeWords → firstNo (Trace.traceQuestions trace) ≡ refused ((21 asks false) .failure)
   unfolding Trace.traceQuestions firstNo
   trace-short h = rw (lt-leb Trace.sizeWords (length trace) h)
 
   module _ (long : Trace.sizeWords ≤ length trace) where
-    pub trace-steps-no : Trace.mostSteps < Trace.stepCount trace → firstNo (Trace.traceQuestions trace) ≡ refused ((22 asks false) .refusal)
+    pub trace-steps-no : Trace.mostSteps < Trace.stepCount trace → firstNo (Trace.traceQuestions trace) ≡ refused ((22 asks false) .failure)
     unfolding Trace.traceQuestions firstNo
     trace-steps-no h = rw (le-leb Trace.sizeWords (length trace) long, lt-leb (Trace.stepCount trace) Trace.mostSteps h)
 
     module _ (few : Trace.stepCount trace ≤ Trace.mostSteps) where
-      pub trace-length-no : length trace ≢ whole → firstNo (Trace.traceQuestions trace) ≡ refused ((23 asks false) .refusal)
+      pub trace-length-no : length trace ≢ whole → firstNo (Trace.traceQuestions trace) ≡ refused ((23 asks false) .failure)
       unfolding Trace.traceQuestions firstNo
       trace-length-no e =
           rw (le-leb Trace.sizeWords (length trace) long, le-leb (Trace.stepCount trace) Trace.mostSteps few, ne-eqb (length trace) whole e)

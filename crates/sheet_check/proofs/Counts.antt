@@ -154,16 +154,16 @@ method-counted t v rs = rw (rows-counted (withMethod t) rs) (go _ _ (nodesOf (ta
 -- else what the rest answers.
 answered : PartCounts → Bool → Verdict → Verdict
 answered t within rest =
-    cond (t .invalid) (refused ((9 asks false askedAt t .offender) .refusal))
-    (cond (t .inside && leb 1 (t .methods)) (cond within rest (refused ((9 asks false askedAt (t .methods - 1)) .refusal))) rest)
+    cond (t .invalid) (refused ((9 asks false askedAt t .offender) .failure))
+    (cond (t .inside && leb 1 (t .methods)) (cond within rest (refused ((9 asks false askedAt (t .methods - 1)) .failure))) rest)
 
 closed-answered : (t : PartCounts) (rest : Verdict)
-    → cond (closed t .invalid) (refused ((9 asks false askedAt closed t .offender) .refusal)) rest ≡ answered t (withinRules t) rest
+    → cond (closed t .invalid) (refused ((9 asks false askedAt closed t .offender) .failure)) rest ≡ answered t (withinRules t) rest
 unfolding closed noted answered
 closed-answered t rest = go (t .inside) (t .invalid) (withinRules t) (leb 1 (t .methods)) refl refl refl refl
   where
     go : (o f w m : Bool) → t .inside ≡ o → t .invalid ≡ f → withinRules t ≡ w → leb 1 (t .methods) ≡ m
-        → cond (closed t .invalid) (refused ((9 asks false askedAt closed t .offender) .refusal)) rest ≡ answered t (withinRules t) rest
+        → cond (closed t .invalid) (refused ((9 asks false askedAt closed t .offender) .failure)) rest ≡ answered t (withinRules t) rest
     go false f w m p q r s = rw p
     go true true w m p q r s = rw (p, q)
     go true false true true p q r s = rw (r, s, p, q)

@@ -9,7 +9,8 @@ use lib.Dec.{eqb}
 use lib.ListN.{length, getD, drop, drop-of-length-le}
 use lib.Seq.{drop-cons}
 use Rattle.hgn.specs.Lists.{elem}
-use Rattle.hgn.specs.Rows.{Row, row, rowsOf, rowQuestions, positionAfter}
+use Rattle.hgn.specs.Rows.{Row, row, rowsOf}
+use Rattle.hgn.specs.RowQuestions.{rowQuestions, positionAfter}
 use Rattle.hgn.specs.Tag as Tag
 use Rattle.hgn.specs.Questions as Questions
 use Rattle.hgn.specs.Questions.{_asks_, _askedAt_, firstNo}
@@ -31,9 +32,9 @@ module _ (follow : Tag.Context → List ℕ) (q F i : ℕ) (p : Tag.Position) (t
   row-first a b c =
       cond a
       (cond b
-      (cond c (firstNo (rowQuestions follow q F (suc i) (Tag.advance p t v) rest)) (Questions.refused (((q + 2) asks false askedAt i) .refusal)))
-      (Questions.refused (((q + 1) asks false askedAt i) .refusal)))
-      (Questions.refused ((q asks false askedAt i) .refusal))
+      (cond c (firstNo (rowQuestions follow q F (suc i) (Tag.advance p t v) rest)) (Questions.refused (((q + 2) asks false askedAt i) .failure)))
+      (Questions.refused (((q + 1) asks false askedAt i) .failure)))
+      (Questions.refused ((q asks false askedAt i) .failure))
 
   pub row-next : (p′ : Tag.Position) → next p′ ≡ rowReading follow q F p t v
       → (firstNo (rowQuestions follow q F i p (row t v ∷ rest)) ≡ firstNo (rowQuestions follow q F (suc i) p′ rest)) × (p′ ≡ Tag.advance p t v)
@@ -49,15 +50,15 @@ module _ (follow : Tag.Context → List ℕ) (q F i : ℕ) (p : Tag.Position) (t
       go false b c e = let z : _≡_ {A = ℕ} 0 1 = cc in absurd (omega arith)
 
   pub row-refused : (number : ℕ) → refused number ≡ rowReading follow q F p t v
-      → (firstNo (rowQuestions follow q F i p (row t v ∷ rest)) ≡ Questions.refused ((number asks false askedAt i) .refusal)) × (q ≤ number)
+      → (firstNo (rowQuestions follow q F i p (row t v ∷ rest)) ≡ Questions.refused ((number asks false askedAt i) .failure)) × (q ≤ number)
   unfolding rowQuestions firstNo rowReading row-first
   row-refused number = go (elem t (follow (p .context))) (Tag.inRange F p t v) (Tag.rises p t v)
     where
-      by : {k : ℕ} → number ≡ k → Questions.refused ((k asks false askedAt i) .refusal) ≡ Questions.refused ((number asks false askedAt i) .refusal)
-      by z = ap (λ (k : ℕ). Questions.refused ((k asks false askedAt i) .refusal)) (sym z)
+      by : {k : ℕ} → number ≡ k → Questions.refused ((k asks false askedAt i) .failure) ≡ Questions.refused ((number asks false askedAt i) .failure)
+      by z = ap (λ (k : ℕ). Questions.refused ((k asks false askedAt i) .failure)) (sym z)
 
       go : (a b c : Bool) → refused number ≡ cond a (cond b (cond c (next (Tag.advance p t v)) (refused (q + 2))) (refused (q + 1))) (refused q)
-          → (row-first a b c ≡ Questions.refused ((number asks false askedAt i) .refusal)) × (q ≤ number)
+          → (row-first a b c ≡ Questions.refused ((number asks false askedAt i) .failure)) × (q ≤ number)
       go true true true e = let z : _≡_ {A = ℕ} 0 1 = cc in absurd (omega arith)
       go true true false e = let z : number ≡ q + 2 = cc in (by z, omega arith)
       go true false c e = let z : number ≡ q + 1 = cc in (by z, omega arith)
@@ -124,7 +125,7 @@ module _ (sheet : Sheet) (F : ℕ) (rs : List Row) where
         }
 
     going-refused : (number : ℕ) → refused number ≡ rowReading (followOf sheet) (firstQuestionOf sheet) F (positionOf p) tag value
-        → (firstNo (questionsOf sheet F rs) ≡ Questions.refused ((number asks false askedAt i) .refusal)) × (1 ≤ number)
+        → (firstNo (questionsOf sheet F rs) ≡ Questions.refused ((number asks false askedAt i) .failure)) × (1 ≤ number)
     going-refused number e =
         let r = row-refused (followOf sheet) (firstQuestionOf sheet) F i (positionOf p) tag value (drop (i + 1) rs) number e in (
           g .questions ∙ ap (λ (l : List Row). firstNo (rowQuestions (followOf sheet) (firstQuestionOf sheet) F i (positionOf p) l)) rest ∙ r .0,
@@ -160,7 +161,7 @@ module _ (sheet : Sheet) (F sizes n : ℕ) (words : List ℕ) (fits : sizes + (n
     read-next {p′} {t′} = going-next sheet F rows i p t g inside tag value read p′ t′
 
     pub read-refused : (number : ℕ) → refused number ≡ rowReading (followOf sheet) (firstQuestionOf sheet) F (positionOf p) tag value
-        → (firstNo (questionsOf sheet F rows) ≡ Questions.refused ((number asks false askedAt i) .refusal)) × (1 ≤ number)
+        → (firstNo (questionsOf sheet F rows) ≡ Questions.refused ((number asks false askedAt i) .failure)) × (1 ≤ number)
     read-refused = going-refused sheet F rows i p t g inside tag value read
 
   pub read-end : {i : ℕ} {p : Position} {t : PartCounts} → Going sheet F rows i p t → n ≤ i

@@ -95,7 +95,7 @@ countedRows t (r ∷ rs) = countedRows (counted t (r .tag)) rs
 
 -- The answer to question 9, once the last method is closed: no, at the number of the first method that was noted.
 unfoldable pub invalidIn : PartCounts → Verdict
-invalidIn t = cond (t .invalid) (refused ((9 asks false askedAt t .offender) .refusal)) passed
+invalidIn t = cond (t .invalid) (refused ((9 asks false askedAt t .offender) .failure)) passed
 
 -- Every count is such a number.
 pub record Each (P : ℕ → Type 0) (t : PartCounts) : Type 0 where

@@ -3,7 +3,8 @@ use Prim.Native.Nat.{ℕ}
 use mathlib.Core.Path.{_≡_}
 use mathlib.Core.List.{List}
 use Rattle.hgn.specs.Questions.{Question, firstNo, answered}
-use Rattle.hgn.specs.Rows.{Row, rowQuestions, positionAfter}
+use Rattle.hgn.specs.Rows.{Row}
+use Rattle.hgn.specs.RowQuestions.{rowQuestions, positionAfter}
 use Rattle.hgn.specs.Tag.{opening}
 use Rattle.sheet_rows.specs.Reading.{followOf, firstQuestionOf, positionOf}
 use Rattle.sheet_rows.specs.Refusals.{refusalOf}

@@ -45,7 +45,7 @@ impl Scan {
 
     // The question of this number failed at a row.
     fn refused(number: u16, row: Row, position: Position, counts: PartCounts) -> Scan
-        ensures { λ r. ⌜ refusalOf (r .refusal) ≡ (number asks false askedAt row .0) .refusal ⌝ }
+        ensures { λ r. ⌜ refusalOf (r .refusal) ≡ (number asks false askedAt row .0) .failure .refusal ⌝ }
     {
         let unplaced = Refusal::by(number);
         let refusal = unplaced.at(row.0);

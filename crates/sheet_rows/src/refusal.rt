@@ -23,7 +23,7 @@ impl Refusal {
 
     // The refusal by the question of this number, with no place of its own.
     pub fn by(number: u16) -> Refusal
-        ensures { λ r. ⌜ refusalOf r ≡ (number asks false) .refusal ⌝ }
+        ensures { λ r. ⌜ refusalOf r ≡ (number asks false) .failure .refusal ⌝ }
     {
         Refusal {
             number: number,

@@ -13,10 +13,10 @@ use lib.ListN.{length, getD, take, drop, length-append, length-map, List·getD-m
 use lib.Seq.{take-append-le, drop-append-le}
 use borrow.Author.Tests.{lt-ltb, le-leb, lt-leb, leb-true, leb-false}
 use Rattle.hgn.specs.Lists.{any}
-use Rattle.hgn.specs.Questions.{Question, _asks_, Verdict, passed, firstNo}
+use Rattle.hgn.specs.Questions.{Question, _asks_, _naming_, Verdict, passed, firstNo}
 use Rattle.hgn.specs.Questions as Questions
 use Rattle.hgn.specs.Meaning.{Node, networkOf}
-use Rattle.hgn.specs.State.{formulaHolds}
+use Rattle.hgn.specs.State.{formulaHolds, unmetGoal}
 use Rattle.hgn.specs.Network.{Waiting, from-step, comesAfter, free, anyFree, enter, goalAt, noGoal, released, decomposed}
 use Rattle.hgn.specs.Run.{Step, Move, release, act, use-method, unknown, moveOf, actionAt, methodAt, Problem, Rules, limited}
 use Rattle.hgn.specs.Run.{moved, ownQuestions, stepQuestions, Deed, releases, takes, uses, deedOf, Stepped, refused, taken, stepped}
@@ -86,8 +86,8 @@ carried f v (refused q) = refused q
 carried f v (taken deed P) = taken (renamedDeed f deed) (embedded f v P)
 
 -- Two questions with equal answers, before equal questions.
-same-question : (number : ℕ) {b c : Bool} {qs rs : List Question} → b ≡ c → qs ≡ rs → (number asks b ∷ qs) ≡ (number asks c ∷ rs)
-same-question number e h = ap₂ {C = List Question} (λ b qs. number asks b ∷ qs) e h
+same-question : (number : ℕ) {a : ℕ} {b c : Bool} {qs rs : List Question} → b ≡ c → qs ≡ rs → (number asks b naming a ∷ qs) ≡ (number asks c naming a ∷ rs)
+same-question number {a} e h = ap₂ {C = List Question} (λ b qs. number asks b naming a ∷ qs) e h
 
 -- The limit counts the goals behind.
 leb-behind : (a b c : ℕ) → leb (a + c) (b + c) ≡ leb a b
@@ -166,7 +166,7 @@ module _ (f : Waiting → Waiting) (v : List Waiting) (n n′ : ℕ) (P : Proble
 
     own-carried : (m : Move) → ownQuestions wide n′ (embedded f v P) p m ≡ ownQuestions r n P p m
     unfolding ownQuestions moved
-    own-carried release = same-question 29 (ap (formulaHolds (P .state)) same-formula) refl
+    own-carried release = ap {B = List Question} (λ g. 29 asks formulaHolds (P .state) g naming unmetGoal (P .state) g ∷ []) same-formula
     own-carried (act k) = same-question 30 refl (same-question 31 (ap (r .mayAct (actionAt (r .domain) k)) same-formula) refl)
     own-carried (use-method m) =
         same-question 30 refl

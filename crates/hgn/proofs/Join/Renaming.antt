@@ -12,7 +12,7 @@ use lib.Dec.{eqb, ltb, eqb·suc-zero}
 use lib.ListN.{length, length-map}
 use borrow.Author.Tests.{eqb-true, eqb-false, eq-eqb, ne-eqb, ltb-true}
 use Rattle.hgn.specs.Lists.{elem, range}
-use Rattle.hgn.specs.Questions.{_asks_, placed, allAt, firstNo}
+use Rattle.hgn.specs.Questions.{_asks_, failedAt, allAt, firstNo}
 use Rattle.hgn.specs.Questions as Questions
 use Rattle.hgn.specs.Meaning.{Node}
 use Rattle.hgn.specs.State.{State}
@@ -55,7 +55,7 @@ same-head {x} e = ap {B = List Waiting} (λ l. x ∷ l) e
 
 -- A run under other names: a refusal at a step under its other name, and what the steps did renamed.
 unfoldable pub later : (Waiting → Waiting) → (ℕ → ℕ) → Outcome → Outcome
-later f σ (stopped q) = stopped (placed (σ (q .place)) q)
+later f σ (stopped q) = stopped (failedAt (σ (q .refusal .place)) q)
 later f σ (accepted deeds s) = accepted (map (renamedDeed f) deeds) s
 
 pub later-accepted : (f : Waiting → Waiting) (σ : ℕ → ℕ) (o : Outcome) (deeds : List Deed) (s : State) → later f σ o ≡ accepted deeds s
@@ -80,7 +80,7 @@ plan-renamed f (uses m g ∷ ds) = plan-renamed f ds
 
 -- A place past the list is refused by the first question.
 outside : (r : Rules) (n : ℕ) (P : Problem) (x : Step) → ltb (x .place) (length (P .waiting)) ≡ false
-    → firstNo (stepQuestions r n P x) ≡ Questions.refused ((25 asks false) .refusal)
+    → firstNo (stepQuestions r n P x) ≡ Questions.refused ((25 asks false) .failure)
 unfolding stepQuestions firstNo
 outside r n P x e = rw e
 

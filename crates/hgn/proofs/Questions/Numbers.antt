@@ -1,13 +1,15 @@
--- What holds of the numbers 1 to 42 holds of the number of every question of the sheets, of a replay and of a search's inputs: so none of
--- them is 0, and none is 43. Assumes nothing.
+-- What holds of the numbers 1 to 28 and 31 to 33 with no atom, and of 29 and 30 with any, holds of the number and the atom of every question of a
+-- replay: so none of the numbers is 0, and only 29 and 30 name an atom. The questions of the sheets are among 1 to 28. Assumes nothing.
 use Prim.Native.Nat.{ℕ, suc, _+_, _<_}
 use native.Mathlib.Omega.{arith}
 use mathlib.Core.Logic.{_≢_}
 use mathlib.Core.List.{List, [], _∷_, _++_}
 use Rattle.hgn.specs.Questions.{allAt}
-use Rattle.hgn.specs.Rows.{Row, rowQuestions}
+use Rattle.hgn.specs.Rows.{Row}
+use Rattle.hgn.specs.RowQuestions.{rowQuestions}
 use Rattle.hgn.specs.Tag.{Context, Position, advance}
 use Rattle.hgn.specs.Meaning.{Method}
+use Rattle.hgn.specs.State.{noAtom}
 use Rattle.hgn.specs.Run.{Step, Move, release, act, use-method, unknown, moveOf, Problem, Rules, ownQuestions, stepQuestions, endQuestions, runQuestions}
 use Rattle.hgn.specs.Shop.{methodQuestions, shopEndQuestions, shopQuestions}
 use Rattle.hgn.specs.Order.{orderEndQuestions, orderQuestions}
@@ -15,8 +17,8 @@ use Rattle.hgn.specs.Trace.{traceQuestions}
 use Rattle.hgn.specs.Replay.{inputQuestions, replayQuestions}
 use Rattle.hgn.proofs.Questions.FirstNo.{Numbers, numbers-append, numbers-at}
 
-module _ (H : ℕ → Type 0) (given : (k : ℕ) → k < 42 → H (suc k)) where
-  pub rows-numbers : (follow : Context → List ℕ) (q F i : ℕ) (p : Position) (rows : List Row) → H q → H (q + 1) → H (q + 2)
+module _ (H : ℕ → ℕ → Type 0) (given : (k : ℕ) → k < 28 → H (suc k) noAtom) where
+  pub rows-numbers : (follow : Context → List ℕ) (q F i : ℕ) (p : Position) (rows : List Row) → H q noAtom → H (q + 1) noAtom → H (q + 2) noAtom
       → Numbers H (rowQuestions follow q F i p rows)
   unfolding rowQuestions
   rows-numbers follow q F i p [] h₀ h₁ h₂ = tt
@@ -68,36 +70,50 @@ module _ (H : ℕ → Type 0) (given : (k : ℕ) → k < 42 → H (suc k)) where
   pub of-trace : (shop sheet trace : List ℕ) → Numbers H (shopQuestions shop ++ orderQuestions shop sheet ++ traceQuestions trace)
   of-trace shop sheet trace = numbers-append H (shopQuestions shop ++ orderQuestions shop sheet) _ (of-order shop sheet) (trace-numbers trace)
 
-  own-numbers : (r : Rules) (n : ℕ) (P : Problem) (p : ℕ) (m : Move) → Numbers H (ownQuestions r n P p m)
-  unfolding ownQuestions
-  own-numbers r n P p release = (given 28 (omega arith), tt)
-  own-numbers r n P p (act k) = (given 29 (omega arith), (given 30 (omega arith), tt))
-  own-numbers r n P p (use-method m) = (given 29 (omega arith), (given 30 (omega arith), (given 31 (omega arith), tt)))
-  own-numbers r n P p unknown = tt
-
-  pub step-numbers : (r : Rules) (n : ℕ) (P : Problem) (x : Step) → Numbers H (stepQuestions r n P x)
-  unfolding stepQuestions
-  step-numbers r n P x = (
-    given 24 (omega arith),
-    (given 25 (omega arith), (given 26 (omega arith), (given 27 (omega arith), own-numbers r n P (x .place) (moveOf (r .domain) (x .move))))),
-  )
-
-  pub run-numbers : (r : Rules) (n : ℕ) (P : Problem) (xs : List Step) → Numbers H (runQuestions r n P xs)
-  unfolding runQuestions endQuestions allAt
-  run-numbers r n P [] = (given 32 (omega arith), tt)
-  run-numbers r n P (x ∷ xs) =
-      numbers-append H (allAt n (stepQuestions r n P x)) _ (numbers-at H n (stepQuestions r n P x) (step-numbers r n P x)) (run-numbers r (suc n) _ xs)
-
   pub input-numbers : (shop sheet trace room : List ℕ) → Numbers H (inputQuestions shop sheet trace room)
   unfolding inputQuestions
   input-numbers shop sheet trace room =
       numbers-append H (shopQuestions shop ++ orderQuestions shop sheet ++ traceQuestions trace) _ (of-trace shop sheet trace) (given 23 (omega arith), tt)
 
-  pub replay-numbers : (shop sheet trace room : List ℕ) → Numbers H (replayQuestions shop sheet trace room)
-  unfolding replayQuestions
-  replay-numbers shop sheet trace room =
-      numbers-append H (inputQuestions shop sheet trace room) _ (input-numbers shop sheet trace room) (run-numbers _ 0 _ _)
+  -- Of a run, where the questions of a goal and of needs name an atom.
+  module _ (goal : (a : ℕ) → H 29 a) (needs : (a : ℕ) → H 30 a) (last : (k : ℕ) → k < 3 → H (31 + k) noAtom) where
+    own-numbers : (r : Rules) (n : ℕ) (P : Problem) (p : ℕ) (m : Move) → Numbers H (ownQuestions r n P p m)
+    unfolding ownQuestions
+    own-numbers r n P p release = (goal _, tt)
+    own-numbers r n P p (act k) = (needs _, (last 0 (omega arith), tt))
+    own-numbers r n P p (use-method m) = (needs _, (last 0 (omega arith), (last 1 (omega arith), tt)))
+    own-numbers r n P p unknown = tt
+
+    pub step-numbers : (r : Rules) (n : ℕ) (P : Problem) (x : Step) → Numbers H (stepQuestions r n P x)
+    unfolding stepQuestions
+    step-numbers r n P x = (
+      given 24 (omega arith),
+      (given 25 (omega arith), (given 26 (omega arith), (given 27 (omega arith), own-numbers r n P (x .place) (moveOf (r .domain) (x .move))))),
+    )
+
+    pub run-numbers : (r : Rules) (n : ℕ) (P : Problem) (xs : List Step) → Numbers H (runQuestions r n P xs)
+    unfolding runQuestions endQuestions allAt
+    run-numbers r n P [] = (last 2 (omega arith), tt)
+    run-numbers r n P (x ∷ xs) =
+        numbers-append H (allAt n (stepQuestions r n P x)) _ (numbers-at H n (stepQuestions r n P x) (step-numbers r n P x)) (run-numbers r (suc n) _ xs)
+
+    pub replay-numbers : (shop sheet trace room : List ℕ) → Numbers H (replayQuestions shop sheet trace room)
+    unfolding replayQuestions
+    replay-numbers shop sheet trace room =
+        numbers-append H (inputQuestions shop sheet trace room) _ (input-numbers shop sheet trace room) (run-numbers _ 0 _ _)
 
 -- No number is 0.
-pub not-zero : (k : ℕ) → k < 42 → suc k ≢ 0
+pub not-zero : (k : ℕ) → k < 28 → suc k ≢ 0
 not-zero k l = omega arith
+
+abbrev NotZero : ℕ → ℕ → Type 0
+NotZero k a = k ≢ 0
+
+pub step-not-zero : (r : Rules) (n : ℕ) (P : Problem) (x : Step) → Numbers (λ k a. k ≢ 0) (stepQuestions r n P x)
+step-not-zero = step-numbers NotZero not-zero (λ a. omega arith) (λ a. omega arith) (λ k l. omega arith)
+
+pub run-not-zero : (r : Rules) (n : ℕ) (P : Problem) (xs : List Step) → Numbers (λ k a. k ≢ 0) (runQuestions r n P xs)
+run-not-zero = run-numbers NotZero not-zero (λ a. omega arith) (λ a. omega arith) (λ k l. omega arith)
+
+pub replay-not-zero : (shop sheet trace room : List ℕ) → Numbers (λ k a. k ≢ 0) (replayQuestions shop sheet trace room)
+replay-not-zero = replay-numbers NotZero not-zero (λ a. omega arith) (λ a. omega arith) (λ k l. omega arith)

@@ -8,7 +8,7 @@ use mathlib.Core.List.{List, [], _∷_, _++_, zipWith}
 use lib.ListN.{length, take, drop, length-append, length-drop}
 use lib.Seq.{take-append-seam, drop-append-seam}
 use borrow.Author.Tests.{leb-true, le-leb}
-use Rattle.hgn.specs.Questions.{Refusal, placed, allAt, Verdict, passed, refused, firstNo}
+use Rattle.hgn.specs.Questions.{Failure, failedAt, allAt, Verdict, passed, refused, firstNo}
 use Rattle.hgn.specs.State.{State}
 use Rattle.hgn.specs.Network.{goalsOf, mostWaiting}
 use Rattle.hgn.specs.Run.{Step, moveOf, Problem, problemOf, Rules, moved, stepQuestions, Deed, planOf}
@@ -17,10 +17,10 @@ use Rattle.hgn.specs.Shop.{domain, shopQuestions}
 use Rattle.hgn.specs.Order.{order, orderQuestions}
 use Rattle.hgn.specs.Trace.{stepCount, step, stepsOf, traceQuestions, checkTrace}
 use Rattle.hgn.specs.Replay.{rulesOf, Replayed, refusal, acceptance, reported, inputQuestions, checkReplay, replay, replayQuestions}
-use Rattle.hgn.specs.Demands.{Refuses, Derives, InputsPass, Accepts, Demand2}
+use Rattle.hgn.specs.Demands.{failureOf, Refuses, Derives, InputsPass, Accepts, Demand2}
 use Rattle.hgn.proofs.Logic.Tests.{strict-decided}
 use Rattle.hgn.proofs.Questions.FirstNo.{passed-cons, append-passed, append-refused, passed-append, verdictAt, first-at, refused-number, Tells, tells-refusal, tells-passed}
-use Rattle.hgn.proofs.Questions.Numbers.{run-numbers, input-numbers, not-zero}
+use Rattle.hgn.proofs.Questions.Numbers.{run-not-zero, input-numbers, not-zero}
 use Rattle.hgn.proofs.Run.Steps.{step-refused, step-passed}
 use Rattle.hgn.proofs.Run.Runs.{resumed, run-cons}
 use Rattle.hgn.proofs.Run.Derivation.{derivation-runs, run-derives, plan-short}
@@ -60,7 +60,7 @@ run-first r n P (x ∷ xs) = go (firstNo (stepQuestions r n P x)) refl (run-firs
     go : (v : Verdict) → firstNo (stepQuestions r n P x) ≡ v → firstNo (runQuestions r (suc n) next xs) ≡ verdictOf (run r (suc n) next xs)
         → firstNo (allAt n (stepQuestions r n P x) ++ runQuestions r (suc n) next xs) ≡ verdictOf (run r n P (x ∷ xs))
     go (refused q) e ih =
-        append-refused (allAt n (stepQuestions r n P x)) _ (placed n q) (here ∙ ap (verdictAt n) e)
+        append-refused (allAt n (stepQuestions r n P x)) _ (failedAt n q) (here ∙ ap (verdictAt n) e)
         ∙ sym (ap verdictOf (run-cons (stepped r) n P x xs ∙ ap (resumed (stepped r) n xs) (step-refused r n P x q e)))
     go passed e ih =
         append-passed (allAt n (stepQuestions r n P x)) _ (here ∙ ap (verdictAt n) e)
@@ -82,11 +82,11 @@ steps-short trace = zip-short step (stepCount trace) (drop 1 trace) _
 
 module _ (shop sheet trace room : List ℕ) where
   -- The run that a replay of these sheets reports.
-  abbrev outcome : Outcome
+  abbrev pub outcome : Outcome
   outcome = run (rulesOf shop) 0 (problemOf (order sheet)) (stepsOf trace)
 
   -- The questions before the run are all answered yes exactly when the sheets pass and the room is large enough.
-  passed-inputs : checkReplay shop sheet trace room ≡ passed → InputsPass shop sheet trace room
+  pub passed-inputs : checkReplay shop sheet trace room ≡ passed → InputsPass shop sheet trace room
   unfolding checkReplay inputQuestions checkTrace
   passed-inputs e =
       let t = passed-append (shopQuestions shop ++ orderQuestions shop sheet ++ traceQuestions trace) _ e in
@@ -97,7 +97,7 @@ module _ (shop sheet trace room : List ℕ) where
   inputs-passed h =
       append-passed (shopQuestions shop ++ orderQuestions shop sheet ++ traceQuestions trace) _ (h .0) ∙ rw (le-leb _ _ (h .1))
 
-  pub replay-refused : (q : Refusal) → checkReplay shop sheet trace room ≡ refused q → replay shop sheet trace room ≡ refusal room q
+  pub replay-refused : (q : Failure) → checkReplay shop sheet trace room ≡ refused q → replay shop sheet trace room ≡ refusal room q
   unfolding replay
   replay-refused q e = rw (e, replay)
 
@@ -108,7 +108,7 @@ module _ (shop sheet trace room : List ℕ) where
 
   -- A replay either refuses by a number that is not 0, or accepts as its run does; and it tells the first no of its questions.
   pub data Report (c : Replayed) : Type 0 where
-    refuses : (q : Refusal) → q .number ≢ 0 → firstNo (replayQuestions shop sheet trace room) ≡ refused q → c ≡ refusal room q → Report c
+    refuses : (q : Failure) → q .refusal .number ≢ 0 → firstNo (replayQuestions shop sheet trace room) ≡ refused q → c ≡ refusal room q → Report c
     accepts : {deeds : List Deed} {last : State} → InputsPass shop sheet trace room → outcome ≡ accepted deeds last
         → firstNo (replayQuestions shop sheet trace room) ≡ passed
         → c ≡ acceptance (domain shop) (stepCount trace) room (planOf deeds) last → Report c
@@ -120,7 +120,7 @@ module _ (shop sheet trace room : List ℕ) where
       ran : (o : Outcome) → outcome ≡ o → checkReplay shop sheet trace room ≡ passed → Report (replay shop sheet trace room)
       ran (stopped q) e p =
           let f = run-first (rulesOf shop) 0 (problemOf (order sheet)) (stepsOf trace) ∙ ap verdictOf e in
-          refuses q (refused-number (λ k. k ≢ 0) _ (run-numbers (λ k. k ≢ 0) not-zero _ 0 _ _) q f)
+          refuses q (refused-number (λ k a. k ≢ 0) _ (run-not-zero _ 0 _ _) q f)
           (append-passed (inputQuestions shop sheet trace room) _ p ∙ f)
           (replay-passed p ∙ ap (reported (domain shop) (stepCount trace) room) e)
       ran (accepted deeds last) e p =
@@ -132,18 +132,18 @@ module _ (shop sheet trace room : List ℕ) where
       go : (v : Verdict) → checkReplay shop sheet trace room ≡ v → Report (replay shop sheet trace room)
       go passed e = ran outcome refl e
       go (refused q) e =
-          refuses q (refused-number (λ k. k ≢ 0) _ (input-numbers (λ k. k ≢ 0) not-zero shop sheet trace room) q e)
+          refuses q (refused-number (λ k a. k ≢ 0) _ (input-numbers (λ k a. k ≢ 0) not-zero shop sheet trace room) q e)
           (append-refused (inputQuestions shop sheet trace room) _ q e) (replay-refused q e)
 
   module _ (c : Replayed) (called : c ≡ replay shop sheet trace room) where
     pub reports : Report c
     reports = subst Report (sym called) report
 
-    pub replay-tells : Tells (c .answer .refusal) (firstNo (replayQuestions shop sheet trace room))
+    pub replay-tells : Tells (failureOf (c .answer)) (firstNo (replayQuestions shop sheet trace room))
     unfolding refusal acceptance
     replay-tells = go reports
       where
-        go : Report c → Tells (c .answer .refusal) (firstNo (replayQuestions shop sheet trace room))
+        go : Report c → Tells (failureOf (c .answer)) (firstNo (replayQuestions shop sheet trace room))
         go (refuses q h f e) = rw (f, e) tells-refusal
         go (accepts p o f e) = rw (f, e) (tells-passed refl)
 

@@ -7,13 +7,13 @@ use mathlib.Core.Bool.{false}
 use mathlib.Core.List.{List, [], _∷_}
 use lib.Dec.{eqb·suc-zero}
 use lib.ListN.{length}
-use Rattle.hgn.specs.Questions.{Refusal, _asks_, placed, allAt, firstNo}
+use Rattle.hgn.specs.Questions.{Failure, _asks_, failedAt, allAt, firstNo}
 use Rattle.hgn.specs.State.{State}
 use Rattle.hgn.specs.Network.{Waiting}
 use Rattle.hgn.specs.Run.{Step, Problem, Rules, Deed, Stepped, refused, taken, stepped, Outcome, stopped, accepted, prepend, endQuestions, ended, runBy, run}
 use Rattle.hgn.proofs.Run.Steps.{took}
 
-pub stopped≢accepted : {q : Refusal} {deeds : List Deed} {s : State} → stopped q ≡ accepted deeds s → ⊥
+pub stopped≢accepted : {q : Failure} {deeds : List Deed} {s : State} → stopped q ≡ accepted deeds s → ⊥
 stopped≢accepted e = let z : _≡_ {A = ℕ} 0 1 = cc in omega arith
 
 module _ {deeds deeds′ : List Deed} {s s′ : State} (e : accepted deeds s ≡ accepted deeds′ s′) where
@@ -35,9 +35,9 @@ unfolding ended endQuestions firstNo allAt
 ended-nothing n s = refl
 
 pub ended-waiting : (n : ℕ) (s : State) (g : Waiting) (w : List Waiting)
-    → (q : Refusal) × (ended n (record { state = s; waiting = g ∷ w }) ≡ stopped q)
+    → ended n (record { state = s; waiting = g ∷ w }) ≡ stopped (failedAt n ((33 asks false) .failure))
 unfolding ended endQuestions firstNo allAt
-ended-waiting n s g w = (placed n ((33 asks false) .refusal), rw (eqb·suc-zero (length w), ended))
+ended-waiting n s g w = rw (eqb·suc-zero (length w), ended)
 
 -- A run that is accepted without a step has nothing waiting.
 pub ended-empty : (n : ℕ) (P : Problem) (deeds : List Deed) (last : State) → ended n P ≡ accepted deeds last
@@ -46,12 +46,12 @@ ended-empty n P deeds last = go (P .state) (P .waiting)
   where
     go : (s : State) (w : List Waiting) → ended n (record { state = s; waiting = w }) ≡ accepted deeds last → (w ≡ []) × (deeds ≡ []) × (s ≡ last)
     go s [] e = let h = sym (ended-nothing n s) ∙ e in (refl, sym (accepted-deeds h), accepted-state h)
-    go s (g ∷ w) e = absurd (stopped≢accepted (sym (ended-waiting n s g w .1) ∙ e))
+    go s (g ∷ w) e = absurd (stopped≢accepted (sym (ended-waiting n s g w) ∙ e))
 
 module _ (next : ℕ → Problem → Step → Stepped) where
   -- The run goes on after a step.
   unfoldable pub resumed : ℕ → List Step → Stepped → Outcome
-  resumed n xs (refused q) = stopped (placed n q)
+  resumed n xs (refused q) = stopped (failedAt n q)
   resumed n xs (taken deed P) = prepend deed (runBy next (suc n) P xs)
 
   pub run-cons : (n : ℕ) (P : Problem) (x : Step) (xs : List Step) → runBy next n P (x ∷ xs) ≡ resumed n xs (next n P x)

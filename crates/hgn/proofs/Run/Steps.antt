@@ -6,7 +6,7 @@ use mathlib.Core.Bool.{true}
 use mathlib.Core.List.{List, [], _∷_}
 use lib.ListN.{length}
 use borrow.Author.Tests.{ltb-true, lt-ltb, leb-true, le-leb}
-use Rattle.hgn.specs.Questions.{Refusal, Verdict, passed, firstNo}
+use Rattle.hgn.specs.Questions.{Failure, Verdict, passed, firstNo}
 use Rattle.hgn.specs.Questions as Questions
 use Rattle.hgn.specs.Meaning.{networkOf}
 use Rattle.hgn.specs.State.{γ, allHold, formulaHolds}
@@ -17,7 +17,7 @@ use Rattle.hgn.specs.Run as Run
 use Rattle.hgn.proofs.Logic.Tests.{true-any, at-of-lt, at-mem}
 use Rattle.hgn.proofs.Questions.FirstNo.{passed-cons}
 
-pub refused≢taken : {q : Refusal} {deed : Deed} {P : Problem} → refused q ≡ taken deed P → ⊥
+pub refused≢taken : {q : Failure} {deed : Deed} {P : Problem} → refused q ≡ taken deed P → ⊥
 refused≢taken e = let z : _≡_ {A = ℕ} 0 1 = cc in omega arith
 
 -- What was taken, part by part.
@@ -53,7 +53,7 @@ some-free w p h e = true-any (free w) w (at-mem (at-of-lt w p noGoal h)) e
 
 module _ (r : Rules) (n : ℕ) (P : Problem) where
   -- The first no of a step's questions is what it is refused by, and where there is none it is taken.
-  pub step-refused : (x : Step) (q : Refusal) → firstNo (stepQuestions r n P x) ≡ Questions.refused q → stepped r n P x ≡ refused q
+  pub step-refused : (x : Step) (q : Failure) → firstNo (stepQuestions r n P x) ≡ Questions.refused q → stepped r n P x ≡ refused q
   unfolding stepped
   step-refused x q e = rw (e, stepped)
 

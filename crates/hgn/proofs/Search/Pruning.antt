@@ -56,7 +56,7 @@ left-none r n P h = go (P .waiting) h
   where
     go : (w : List Waiting) → Runs r n (record { state = P .state; waiting = w }) [] → noSteps w ≡ none → ⊥
     go [] h e = Option·some-ne-none [] e
-    go (g ∷ w) h e = stopped≢accepted (sym (ended-waiting n (P .state) g w .1) ∙ h .2)
+    go (g ∷ w) h e = stopped≢accepted (sym (ended-waiting n (P .state) g w) ∙ h .2)
 
 module _ (rule : Rule) (r : Rules) where
   -- One step of the search.

@@ -10,8 +10,9 @@ use mathlib.Core.Option.{Option, none, some}
 use lib.Dec.{leb}
 use lib.ListN.{length, take}
 use borrow.Author.Tests.{leb-true, le-leb}
-use Rattle.hgn.specs.Questions.{Refusal, _asks_, Verdict, passed, refused, firstNo}
+use Rattle.hgn.specs.Questions.{Failure, withoutAtom, _asks_, Verdict, passed, refused, firstNo}
 use Rattle.hgn.specs.Network.{goalsOf, mostWaiting}
+use Rattle.hgn.specs.State.{noAtom}
 use Rattle.hgn.specs.Run.{Step, problemOf}
 use Rattle.hgn.specs.Shop.{domain, shopQuestions}
 use Rattle.hgn.specs.Order.{order, orderQuestions, checkOrder}
@@ -20,7 +21,7 @@ use Rattle.hgn.specs.Replay.{rulesOf, replay}
 use Rattle.hgn.specs.Search.{mostDepth, isFound, stepsFound, searched, Searched, noTrace, written, searchQuestions, search}
 use Rattle.hgn.specs.Demands.{Solves, FirstOfShortest, SearchPasses, Finds, Demand2OfSearch, SearchAgreesWithReplay}
 use Rattle.hgn.proofs.Logic.Tests.{strict-decided}
-use Rattle.hgn.proofs.Questions.FirstNo.{append-passed, append-refused, refused-number, Tells, tells-refusal, tells-passed}
+use Rattle.hgn.proofs.Questions.FirstNo.{Numbers, numbers-append, append-passed, append-refused, refused-number, Tells, tells-unnamed, tells-passed}
 use Rattle.hgn.proofs.Questions.Numbers.{of-order, not-zero}
 use Rattle.hgn.proofs.Sheets.Checked.{order-goals, shop-of-order, shop-actions}
 use Rattle.hgn.proofs.Network.Waiting.{length-enter}
@@ -92,7 +93,7 @@ module _ (shop sheet : List ℕ) where
       none-solves q xs l h = shortest-none depth _ _ q xs l (runs-of e h)
 
     -- The question of this number is answered no, the room unchanged.
-    pub search-refused : (q : Refusal) → firstNo (searchQuestions shop sheet depth room) ≡ refused q → search shop sheet depth room ≡ noTrace room q
+    pub search-refused : (q : Failure) → firstNo (searchQuestions shop sheet depth room) ≡ refused q → search shop sheet depth room ≡ noTrace room (q .refusal)
     unfolding search
     search-refused q e = rw (e, search)
 
@@ -108,17 +109,17 @@ module _ (shop sheet : List ℕ) where
     unfolding searchQuestions checkOrder
     search-inputs e = append-passed (shopQuestions shop ++ orderQuestions shop sheet) _ e
 
-    pub sheets-refused : (q : Refusal) → checkOrder shop sheet ≡ refused q → firstNo (searchQuestions shop sheet depth room) ≡ refused q
+    pub sheets-refused : (q : Failure) → checkOrder shop sheet ≡ refused q → firstNo (searchQuestions shop sheet depth room) ≡ refused q
     unfolding searchQuestions checkOrder
     sheets-refused q e = append-refused (shopQuestions shop ++ orderQuestions shop sheet) _ q e
 
     pub depth-refused : checkOrder shop sheet ≡ passed → leb depth mostDepth ≡ false
-        → firstNo (searchQuestions shop sheet depth room) ≡ refused ((41 asks false) .refusal)
+        → firstNo (searchQuestions shop sheet depth room) ≡ refused ((41 asks false) .failure)
     unfolding firstNo
     depth-refused h e = search-inputs h ∙ rw e
 
     pub room-refused : checkOrder shop sheet ≡ passed → leb depth mostDepth ≡ true → leb (sizeWords + 2 * depth) (length room) ≡ false
-        → firstNo (searchQuestions shop sheet depth room) ≡ refused ((42 asks false) .refusal)
+        → firstNo (searchQuestions shop sheet depth room) ≡ refused ((42 asks false) .failure)
     unfolding firstNo
     room-refused h e f = search-inputs h ∙ rw (e, f)
 
@@ -129,16 +130,16 @@ module _ (shop sheet : List ℕ) where
 
     -- A search refuses by a number that is neither 0 nor 43, finds no steps, or finds some.
     pub data Report (c : Searched) : Type 0 where
-      refuses : (q : Refusal) → q .number ≢ 0 → q .number ≢ 43 → firstNo (searchQuestions shop sheet depth room) ≡ refused q
-          → c ≡ noTrace room q → Report c
-      finds-none : SearchPasses shop sheet depth room → searched shop sheet depth ≡ none → (q : Refusal) → q .number ≡ 43
-          → firstNo (searchQuestions shop sheet depth room) ≡ refused q → c ≡ noTrace room q → Report c
+      refuses : (q : Failure) → q .refusal .number ≢ 0 → q .refusal .number ≢ 43 → firstNo (searchQuestions shop sheet depth room) ≡ refused q
+          → c ≡ noTrace room (q .refusal) → Report c
+      finds-none : SearchPasses shop sheet depth room → searched shop sheet depth ≡ none → (q : Failure) → q .refusal .number ≡ 43
+          → firstNo (searchQuestions shop sheet depth room) ≡ refused q → c ≡ noTrace room (q .refusal) → Report c
       finds-some : {xs : List Step} → SearchPasses shop sheet depth room → searched shop sheet depth ≡ some xs
           → firstNo (searchQuestions shop sheet depth room) ≡ passed → c ≡ written room xs → Report c
 
     -- Where sheets, depth and room pass, only 43 can refuse.
-    only-43 : SearchPasses shop sheet depth room → (q : Refusal) → firstNo (searchQuestions shop sheet depth room) ≡ refused q → q .number ≡ 43
-    only-43 p q f = refused-number (λ k. k ≡ 43) (43 asks isFound (searched shop sheet depth) ∷ []) (refl, tt) q (sym (inputs-searched p) ∙ f)
+    only-43 : SearchPasses shop sheet depth room → (q : Failure) → firstNo (searchQuestions shop sheet depth room) ≡ refused q → q .refusal .number ≡ 43
+    only-43 p q f = refused-number (λ k a. k ≡ 43) (43 asks isFound (searched shop sheet depth) ∷ []) (refl, tt) q (sym (inputs-searched p) ∙ f)
 
     report : Report (search shop sheet depth room)
     unfolding isFound stepsFound firstNo checkOrder
@@ -155,16 +156,22 @@ module _ (shop sheet : List ℕ) where
         roomy : checkOrder shop sheet ≡ passed → (b : Bool) → leb depth mostDepth ≡ b → (c : Bool) → leb (sizeWords + 2 * depth) (length room) ≡ c
             → Report (search shop sheet depth room)
         roomy h true e true f = searching (h, leb-true _ _ e, leb-true _ _ f) (searched shop sheet depth) refl
-        roomy h true e false f = let k = room-refused h e f in refuses ((42 asks false) .refusal) (omega arith) (omega arith) k (search-refused _ k)
-        roomy h false e c f = let k = depth-refused h e in refuses ((41 asks false) .refusal) (omega arith) (omega arith) k (search-refused _ k)
+        roomy h true e false f = let k = room-refused h e f in refuses ((42 asks false) .failure) (omega arith) (omega arith) k (search-refused _ k)
+        roomy h false e c f = let k = depth-refused h e in refuses ((41 asks false) .failure) (omega arith) (omega arith) k (search-refused _ k)
 
         go : (v : Verdict) → checkOrder shop sheet ≡ v → Report (search shop sheet depth room)
         go passed e = roomy e (leb depth mostDepth) refl (leb (sizeWords + 2 * depth) (length room)) refl
         go (refused q) e =
             let k = sheets-refused q e in
             let qs = shopQuestions shop ++ orderQuestions shop sheet in
-            refuses q (refused-number (λ k. k ≢ 0) qs (of-order (λ k. k ≢ 0) not-zero shop sheet) q e)
-            (refused-number (λ k. k ≢ 43) qs (of-order (λ k. k ≢ 43) (λ k l. omega arith) shop sheet) q e) k (search-refused q k)
+            refuses q (refused-number (λ k a. k ≢ 0) qs (of-order (λ k a. k ≢ 0) not-zero shop sheet) q e)
+            (refused-number (λ k a. k ≢ 43) qs (of-order (λ k a. k ≢ 43) (λ k l. omega arith) shop sheet) q e) k (search-refused q k)
+
+    names-no-atom : Numbers (λ k a. a ≡ noAtom) (searchQuestions shop sheet depth room)
+    unfolding searchQuestions
+    names-no-atom =
+        numbers-append (λ k a. a ≡ noAtom) (shopQuestions shop ++ orderQuestions shop sheet) _ (of-order (λ k a. a ≡ noAtom) (λ k l. refl) shop sheet)
+        (refl, (refl, (refl, tt)))
 
     module _ (c : Searched) (called : c ≡ search shop sheet depth room) where
       reports : Report c
@@ -173,14 +180,14 @@ module _ (shop sheet : List ℕ) where
       number-of : {d : Searched} → c ≡ d → c .refusal .number ≡ d .refusal .number
       number-of e = ap (λ (c : Searched). c .refusal .number) e
 
-      -- It tells the first no of its questions, and a refusal leaves the room as it was.
-      pub search-tells : Tells (c .refusal) (firstNo (searchQuestions shop sheet depth room))
+      -- It tells the first no of its questions, which name no atom, and a refusal leaves the room as it was.
+      pub search-tells : Tells (withoutAtom (c .refusal)) (firstNo (searchQuestions shop sheet depth room))
       unfolding noTrace written
       search-tells = go reports
         where
-          go : Report c → Tells (c .refusal) (firstNo (searchQuestions shop sheet depth room))
-          go (refuses q h k f e) = rw (f, e) tells-refusal
-          go (finds-none p s q h f e) = rw (f, e) tells-refusal
+          go : Report c → Tells (withoutAtom (c .refusal)) (firstNo (searchQuestions shop sheet depth room))
+          go (refuses q h k f e) = rw (f, e) (tells-unnamed (searchQuestions shop sheet depth room) names-no-atom q f)
+          go (finds-none p s q h f e) = rw (f, e) (tells-unnamed (searchQuestions shop sheet depth room) names-no-atom q f)
           go (finds-some p s f e) = rw (f, e) (tells-passed refl)
 
       pub search-leaves : c .refusal .number ≢ 0 → c .room ≡ room

@@ -12,7 +12,8 @@ use borrow.Author.Tests.{eqb-true, leb-true, ltb-true, le-leb, lt-ltb}
 use Rattle.hgn.specs.Lists.{any, elem}
 use Rattle.hgn.specs.Tag.{Context, atStart, inAction, inEffects, inMethod, inNode, inAlternative, Position, opening, shopFollow, orderFollow}
 use Rattle.hgn.specs.Tag.{mayEnd, contextAfter, begins, leastHere, advance, inRange, rises}
-use Rattle.hgn.specs.Rows.{Row, row, positionAfter}
+use Rattle.hgn.specs.Rows.{Row, row}
+use Rattle.hgn.specs.RowQuestions.{positionAfter}
 use Rattle.hgn.specs.Meaning.{Literal, Formula, Node, Action, Method, Domain, Order}
 use Rattle.hgn.specs.Written.{conjunctRows, alternativeRows, nodeRows, actionRows, methodRows, domainRows, orderRows}
 use Rattle.hgn.specs.Written.{RisingBelow, ConjunctRules, NodeRules, NetworkRules, ActionRules, MethodRules}

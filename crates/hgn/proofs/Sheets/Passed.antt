@@ -9,7 +9,8 @@ use borrow.Author.Tests.{eqb-true, leb-true, le-leb, eq-eqb}
 use Rattle.hgn.specs.Lists.{elem}
 use Rattle.hgn.specs.Tag.{Context, Position, opening, shopFollow, orderFollow, mayEnd, advance, inRange, rises}
 use Rattle.hgn.specs.Questions.{passed, firstNo}
-use Rattle.hgn.specs.Rows.{Row, rowQuestions, positionAfter}
+use Rattle.hgn.specs.Rows.{Row}
+use Rattle.hgn.specs.RowQuestions.{rowQuestions, positionAfter}
 use Rattle.hgn.specs.Meaning.{Method}
 use Rattle.hgn.specs.Shop
 use Rattle.hgn.specs.Shop.{domain, shopEndQuestions, shopQuestions, checkShop, nodeRules, methodQuestions}
