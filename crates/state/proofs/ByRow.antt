@@ -1,19 +1,24 @@
 -- The literals of the rows with two tags, and the values of those with one, row by row. Assumes nothing.
 use Prim.Native.Nat.{ℕ, _≤_}
 use mathlib.Core.Path.{_≡_, refl, ap, _∙_}
-use mathlib.Core.Bool.{Bool, true, false, cond, _&&_}
+use mathlib.Core.Bool.{Bool, true, false, cond, _&&_, and-true}
 use mathlib.Core.List.{List, [], _∷_, _++_}
 use lib.ListN.{length, set}
 use lib.Seq.{set-out}
 use borrow.Author.Tests.{eq-eqb, ne-eqb}
+use Rattle.hgn.specs.Lists.{all}
 use Rattle.hgn.specs.Rows.{Row, row, has, valuesTagged}
 use Rattle.hgn.specs.Meaning.{literals}
-use Rattle.hgn.specs.State.{State, assign, literalHolds, allHold}
+use Rattle.hgn.specs.State.{State, assign, literalHolds, allHold, unmet}
 use Rattle.hgn.proofs.Logic.Tests.{all-append}
 use Rattle.state.specs.Effects.{setEach}
 
 abbrev pub allHoldIn : State → ℕ → ℕ → List Row → Bool
 allHoldIn s t f rs = allHold s (literals t f rs)
+
+-- Whether they hold, and the first atom that is not as wanted.
+abbrev pub toldIn : State → ℕ → ℕ → List Row → Bool × ℕ
+toldIn s t f rs = (allHoldIn s t f rs, unmet s (literals t f rs))
 
 abbrev pub assignedIn : Bool → ℕ → State → List Row → State
 assignedIn b t s rs = assign b (valuesTagged t rs) s
@@ -51,11 +56,23 @@ module _ (t f : ℕ) where
       unfolding allHold
       all-first = ap (allHold s) (first-row r rs) ∙ all-append (literalHolds s) (literals t f (r ∷ [])) (literals t f rs) ∙ rw (← e)
 
-      pub first-holds : told ≡ true → allHoldIn s t f (r ∷ rs) ≡ allHoldIn s t f rs
-      first-holds h = rw (all-first, h)
+      pub unmet-first : unmet s (literals t f (r ∷ rs)) ≡ cond told (unmet s (literals t f rs)) (r .value)
+      unfolding allHold all unmet literals
+      unmet-first = go (has t r) (has f r) e
+        where
+          go : (a b : Bool) → told ≡ all (literalHolds s) (cond a (record { sign = true; atom = r .value } ∷ []) (cond b (record { sign = false; atom = r .value } ∷ []) []))
+              → unmet s (cond a (record { sign = true; atom = r .value } ∷ literals t f rs)
+              (cond b (record { sign = false; atom = r .value } ∷ literals t f rs) (literals t f rs)))
+              ≡ cond told (unmet s (literals t f rs)) (r .value)
+          go true b e = rw (e, and-true)
+          go false true e = rw (e, and-true)
+          go false false e = rw e
 
-      pub first-fails : told ≡ false → allHoldIn s t f (r ∷ rs) ≡ false
-      first-fails h = rw (all-first, h)
+      pub told-holds : told ≡ true → toldIn s t f (r ∷ rs) ≡ toldIn s t f rs
+      told-holds h = rw (all-first, unmet-first, h)
+
+      pub told-fails : told ≡ false → toldIn s t f (r ∷ rs) ≡ (false, r .value)
+      told-fails h = rw (all-first, unmet-first, h)
 
 -- A row's value is assigned before those of the rows after it, or it has another tag, or it is no atom.
 module _ (b : Bool) (tag : ℕ) (s : State) (t v : ℕ) (rs : List Row) where

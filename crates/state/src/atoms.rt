@@ -11,6 +11,9 @@ ghost use Rattle.hgn.specs.State.{emptyState, literalHolds, assign};
 ghost use Rattle.sheet_index.specs.Index.{partRows, Lies};
 ghost use Rattle.state.specs.Effects.{setEach};
 
+// What stands for an atom where none is named: the first number that no atom has.
+pub const NO_ATOM: u16 = Shop::MOST_ATOMS;
+
 // For each atom, whether it is in.
 pub struct State {
     pub atoms: [bool; Shop::MOST_ATOMS as usize],

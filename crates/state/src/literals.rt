@@ -12,9 +12,10 @@ ghost use mathlib.Core.List.{[], _∷_, zipWith};
 ghost use Rattle.hgn.specs.Rows.{row};
 ghost use Rattle.hgn.specs.Tag.{wantedTrue, wantedFalse};
 ghost use Rattle.hgn.specs.Meaning.{literals, nodeOf};
-ghost use Rattle.hgn.specs.State.{allHold, formulaHolds, relevant};
+ghost use Rattle.hgn.specs.State.{allHold, relevant};
 ghost use Rattle.sheet_index.specs.Index.{partRows, Lies};
 ghost use Rattle.state.specs.Effects.{metOf};
+ghost use Rattle.state.specs.Tests.{holdsIn, Tested, GoalTested};
 
 // The row's literal holds, if it has one: its tag is one of these two, one for true and one for false.
 fn row_holds(
@@ -35,6 +36,53 @@ fn row_holds(
     true
 }
 
+// What a test of literals or of a formula tells: it holds, or else the atom of the first literal that does not.
+pub enum Test {
+    Holds,
+    Fails(Atom),
+}
+
+impl Test {
+    // What was tested holds.
+    pub fn holds(self) -> bool
+        ensures { λ r. ⌜ r ≡ holdsIn self ⌝ }
+    {
+        match self {
+            Test::Holds => true,
+            Test::Fails(_) => false,
+        }
+    }
+}
+
+// What the literals of a part's rows with these two tags, one for true and one for false, come to.
+pub fn test_literals(
+    atoms: &[bool; Shop::MOST_ATOMS as usize],
+    words: &[u16],
+    part: Part,
+    yes: u16,
+    no: u16,
+) -> Test
+    requires { ⌜ Lies (now words) part ⌝ }
+    ensures { λ r. ⌜ Tested (now (atoms .entry)) (literals «yes» «no» (partRows (now (words .entry)) part)) r ⌝ }
+{
+    let tags = part.tags;
+    let values = part.values;
+    let n = part.rows;
+    let mut test = Test::Holds;
+    let mut i = 0;
+    while i < n {
+        let tag = words[tags + i];
+        let value = words[values + i];
+        i += 1;
+        if !row_holds(atoms, tag, value, yes, no) {
+            test = Test::Fails(Atom(value));
+            // The first is told, so no row after it is read.
+            i = n;
+        }
+    }
+    test
+}
+
 // Every literal of a part's rows with these two tags, one for true and one for false, holds.
 pub fn all_hold(
     atoms: &[bool; Shop::MOST_ATOMS as usize],
@@ -46,31 +94,21 @@ pub fn all_hold(
     requires { ⌜ Lies (now words) part ⌝ }
     ensures { λ r. ⌜ r ≡ allHold (now (atoms .entry)) (literals «yes» «no» (partRows (now (words .entry)) part)) ⌝ }
 {
-    let tags = part.tags;
-    let values = part.values;
-    let n = part.rows;
-    let mut i = 0;
-    while i < n {
-        if row_holds(atoms, words[tags + i], words[values + i], yes, no) {
-            i += 1;
-        } else {
-            return false;
-        }
-    }
-    true
+    let test = test_literals(atoms, words, part, yes, no);
+    test.holds()
 }
 
-// The formula of a node's rows holds: one of its alternatives does.
-pub fn formula_holds(
-    atoms: &[bool; Shop::MOST_ATOMS as usize],
-    tags: &[u16],
-    values: &[u16],
-) -> bool
-    ensures { λ r. ⌜ r ≡ formulaHolds (now (atoms .entry)) (nodeOf (zipWith row (now (tags .entry)) (now (values .entry))) .formula) ⌝ }
+// What the formula of a node's rows comes to: it holds where one of its alternatives does. Where none does, the first row that is not as
+// wanted is told; it stands in the first alternative, since the walk ends where one holds. A formula without alternatives names no atom.
+pub fn test_formula(atoms: &[bool; Shop::MOST_ATOMS as usize], tags: &[u16], values: &[u16]) -> Test
+    ensures { λ r. ⌜ GoalTested (now (atoms .entry)) (nodeOf (zipWith row (now (tags .entry)) (now (values .entry))) .formula) r ⌝ }
 {
     let n = part::rows(tags, values);
     // The alternative that the row stands in holds so far; there is none before the first 8.
     let mut so_far = false;
+    // A row was not as wanted, and the first such has this atom. The atom alone does not say so, as a value may be any number.
+    let mut failed = false;
+    let mut atom = atoms::NO_ATOM;
     let mut i = 0;
     while i < n {
         let tag = tags[i];
@@ -78,14 +116,23 @@ pub fn formula_holds(
         i += 1;
         if tag == tag::ALTERNATIVE {
             if so_far {
-                return true;
+                return Test::Holds;
             }
             so_far = true;
         } else if so_far {
-            so_far = row_holds(atoms, tag, value, tag::WANTED_TRUE, tag::WANTED_FALSE);
+            if !row_holds(atoms, tag, value, tag::WANTED_TRUE, tag::WANTED_FALSE) {
+                so_far = false;
+                if !failed {
+                    failed = true;
+                    atom = value;
+                }
+            }
         }
     }
-    so_far
+    if so_far {
+        return Test::Holds;
+    }
+    Test::Fails(Atom(atom))
 }
 
 // What effects do to wanted literals: they contain the opposite of one, or else one of them, or neither.
