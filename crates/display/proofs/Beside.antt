@@ -32,7 +32,7 @@ use denote.Triple.Walked.{Stay, stay-none, stay-none-slice, Goes, goes-none, goe
 use denote.Exit.{yes}
 use Rattle.hgn.specs.Run.{Step}
 use Rattle.sheet_index.specs.Tables.{Indexed}
-use Rattle.sheet_rows.specs.declared.refusal.Refusal.{Refusal}
+use Rattle.step.specs.declared.failure.Failure.{Failure}
 use Rattle.step.specs.declared.problem.Problem.{Problem}
 use Rattle.step.specs.declared.moves.Step as Code
 use Rattle.step.specs.Taking.{Going}
@@ -83,7 +83,7 @@ Checked a = Indexed (a .0 .now) (a .1 .0 .now) (a .1 .1 .0 .now)
 abbrev pub Ready : Passed → Problem → Type 0
 Ready a h = Going (a .0 .now) (a .1 .0 .now) (number a) (h .atoms) (h .waiting) × (number a < orderOrigin)
 
-abbrev pub Moved : Passed → Problem → Refusal → Problem → Type 0
+abbrev pub Moved : Passed → Problem → Failure → Problem → Type 0
 Moved a = Forward (a .0 .now) (a .1 .0 .now) (number a) (step-of a)
 
 pub needs-both : {M : Type 1} (𝓤 : URA M) (φ ψ : Type 0) (X : SProp 𝓤) {Q : SProp 𝓤} → (φ → ψ → ent 𝓤 X Q) → ent 𝓤 (sep 𝓤 X (sep 𝓤 (fact 𝓤 φ) (fact 𝓤 ψ))) Q

@@ -9,7 +9,7 @@ use lib.Dec.{eqb}
 use lib.ListN.{length, take}
 use borrow.Author.Tests.{eqb-true, eqb-false}
 use Rattle.hgn.specs.Questions as Questions
-use Rattle.hgn.specs.Questions.{placed, allAt, firstNo}
+use Rattle.hgn.specs.Questions.{failedAt, allAt, firstNo}
 use Rattle.hgn.specs.Meaning.{Domain}
 use Rattle.hgn.specs.Network.{mostWaiting}
 use Rattle.hgn.specs.Run as Run
@@ -47,7 +47,7 @@ stops here (suc k) rest h = refl
 
 -- The place at which a run of so many steps ends.
 unfoldable placeOf : ℕ → Outcome → ℕ
-placeOf steps (stopped q) = q .place
+placeOf steps (stopped q) = q .refusal .place
 placeOf steps (accepted deeds s) = steps
 
 place-prepended : (steps : ℕ) (deed : Deed) (o : Outcome) → placeOf steps (prepend deed o) ≡ placeOf steps o
@@ -67,11 +67,11 @@ place-reported d steps room (accepted deeds s) = refl
 module _ (shop sheet : List ℕ) where
   -- What a call showed of a step that is refused, and of one that is taken.
   module _ (n : ℕ) (b : Problem) (x : Step) (c : StepCall shop sheet n x b) where
-    comes : (o : Stepped) → steppedAt shop sheet n x b ≡ o → Comes shop sheet o (record { refusal = c .answer; problem = c .after })
-    comes o e = subst (λ (s : Stepped). Comes shop sheet s (record { refusal = c .answer; problem = c .after })) e (c .forward .comes-to)
+    comes : (o : Stepped) → steppedAt shop sheet n x b ≡ o → Comes shop sheet o (record { failure = c .answer; problem = c .after })
+    comes o e = subst (λ (s : Stepped). Comes shop sheet s (record { failure = c .answer; problem = c .after })) e (c .forward .comes-to)
 
-    not-zero : (q : Questions.Refusal) → steppedAt shop sheet n x b ≡ refused q → c .answer .number ≢ 0
-    not-zero q e z = comes (refused q) e .1 (sym (ap (λ (r : Questions.Refusal). r .number) (comes (refused q) e .0)) ∙ z)
+    not-zero : (q : Questions.Failure) → steppedAt shop sheet n x b ≡ refused q → c .answer .refusal .number ≢ 0
+    not-zero q e z = comes (refused q) e .1 (sym (ap (λ (f : Questions.Failure). f .refusal .number) (comes (refused q) e .0)) ∙ z)
 
     did : (deed : Deed) (P : Run.Problem) → steppedAt shop sheet n x b ≡ taken deed P
         → deedOf (problemIn shop sheet b) (x .place) (moveOf (domain shop) (x .move)) ≡ deed
@@ -86,16 +86,16 @@ module _ (shop sheet : List ℕ) where
   shown-run n b (x ∷ xs) cs = go (steppedAt shop sheet n x b) refl (λ a. shown-run (suc n) (cs .0 .after) xs (cs .1 a))
     where
       go : (o : Stepped) → steppedAt shop sheet n x b ≡ o
-          → ((a : cs .0 .answer .number ≡ 0) → shownBy shop sheet (suc n) (cs .0 .after) xs (cs .1 a) ≡ run (rulesOf shop) (suc n) (problemIn shop sheet (cs .0 .after)) xs)
+          → ((a : cs .0 .answer .refusal .number ≡ 0) → shownBy shop sheet (suc n) (cs .0 .after) xs (cs .1 a) ≡ run (rulesOf shop) (suc n) (problemIn shop sheet (cs .0 .after)) xs)
           → shownBy shop sheet n b (x ∷ xs) cs ≡ run (rulesOf shop) n (problemIn shop sheet b) (x ∷ xs)
       go (refused q) e h =
-          stops _ (cs .0 .answer .number) _ (not-zero n b x (cs .0) q e)
-          ∙ ap (λ (r : Questions.Refusal). stopped (placed n r)) (comes n b x (cs .0) (refused q) e .0)
+          stops _ (cs .0 .answer .refusal .number) _ (not-zero n b x (cs .0) q e)
+          ∙ ap (λ (f : Questions.Failure). stopped (failedAt n f)) (comes n b x (cs .0) (refused q) e .0)
           ∙ sym (run-cons (stepped (rulesOf shop)) n (problemIn shop sheet b) x xs ∙ ap (resumed (stepped (rulesOf shop)) n xs) e)
       go (taken deed P) e h =
           let t = comes n b x (cs .0) (taken deed P) e in
-          both-on (λ (o : Outcome) (u : Unit {0}). o ≡ run (rulesOf shop) n (problemIn shop sheet b) (x ∷ xs)) _ tt (cs .0 .answer .number) _
-          (λ z. tt) (ap (λ (q : Questions.Refusal). q .number) (t .0))
+          both-on (λ (o : Outcome) (u : Unit {0}). o ≡ run (rulesOf shop) n (problemIn shop sheet b) (x ∷ xs)) _ tt (cs .0 .answer .refusal .number) _
+          (λ z. tt) (ap (λ (f : Questions.Failure). f .refusal .number) (t .0))
           (λ z. ap₂ {C = Outcome} prepend (did n b x (cs .0) deed P e)
           (h z ∙ ap (λ (Q : Run.Problem). run (rulesOf shop) (suc n) Q xs) (t .1))
           ∙ sym (run-cons (stepped (rulesOf shop)) n (problemIn shop sheet b) x xs ∙ ap (resumed (stepped (rulesOf shop)) n xs) e))
@@ -117,7 +117,7 @@ module _ (shop sheet : List ℕ) where
   left P₀ ys n b (x ∷ xs) cs l h = go (steppedAt shop sheet n x b) refl (λ a. left P₀ (ys ++ (x ∷ [])) (suc n) (cs .0 .after) xs (cs .1 a) (sym (one-more ys x) ∙ ap suc l))
     where
       go : (o : Stepped) → steppedAt shop sheet n x b ≡ o
-          → ((a : cs .0 .answer .number ≡ 0) → Reached (rulesOf shop) P₀ (ys ++ (x ∷ [])) (problemIn shop sheet (cs .0 .after))
+          → ((a : cs .0 .answer .refusal .number ≡ 0) → Reached (rulesOf shop) P₀ (ys ++ (x ∷ [])) (problemIn shop sheet (cs .0 .after))
           → Left P₀ (ys ++ (x ∷ [])) (suc n) xs (shownBy shop sheet (suc n) (cs .0 .after) xs (cs .1 a)) (leftBy shop sheet (suc n) (cs .0 .after) xs (cs .1 a)))
           → Left P₀ ys n (x ∷ xs) (shownBy shop sheet n b (x ∷ xs) cs) (leftBy shop sheet n b (x ∷ xs) cs)
       go (refused q) e ih =
@@ -125,16 +125,16 @@ module _ (shop sheet : List ℕ) where
           record {
             steps = 0;
             reached =
-                subst (λ (c : Problem). Reached (rulesOf shop) P₀ (ys ++ []) (problemIn shop sheet c)) (sym (stops _ (cs .0 .answer .number) _ z ∙ cs .0 .forward .unchanged z))
+                subst (λ (c : Problem). Reached (rulesOf shop) P₀ (ys ++ []) (problemIn shop sheet c)) (sym (stops _ (cs .0 .answer .refusal .number) _ z ∙ cs .0 .forward .unchanged z))
                 (subst (λ (zs : List Step). Reached (rulesOf shop) P₀ zs (problemIn shop sheet b)) (sym (append-nil ys)) h);
-            place = ap (placeOf (n + suc (length xs))) (stops _ (cs .0 .answer .number) _ z) ∙ sym (add-zero n);
+            place = ap (placeOf (n + suc (length xs))) (stops _ (cs .0 .answer .refusal .number) _ z) ∙ sym (add-zero n);
           }
       go (taken deed P) e ih =
           let t = comes n b x (cs .0) (taken deed P) e in
           let r : Reached (rulesOf shop) P₀ (ys ++ (x ∷ [])) (problemIn shop sheet (cs .0 .after)) =
           subst (Reached (rulesOf shop) P₀ (ys ++ (x ∷ []))) (sym (t .1)) (next x h (ap (λ (k : ℕ). stepped (rulesOf shop) k (problemIn shop sheet b) x) l ∙ e))
           in
-          both-on (Left P₀ ys n (x ∷ xs)) _ _ (cs .0 .answer .number) _ _ (ap (λ (q : Questions.Refusal). q .number) (t .0)) (λ z.
+          both-on (Left P₀ ys n (x ∷ xs)) _ _ (cs .0 .answer .refusal .number) _ _ (ap (λ (f : Questions.Failure). f .refusal .number) (t .0)) (λ z.
           let i = ih z r in
           let longer : n + suc (length xs) ≡ suc n + length xs = omega arith in
           let one-on : suc n + i .steps ≡ n + suc (i .steps) = omega arith in
@@ -169,7 +169,7 @@ display-shows-replay shop sheet trace room c inputs called b f cs =
 pub display-goes-on : DisplayGoesOn
 display-goes-on = record {
   begins = λ shop sheet table b f. (ap₂ {C = Run.Problem} (λ s w. record { state = s; waiting = w }) (f .atoms) (f .goals .list), going-first (b .atoms) (f .goals));
-  goes-on = λ shop sheet n x b c g. by-test (eqb (c .answer .number) 0)
+  goes-on = λ shop sheet n x b c g. by-test (eqb (c .answer .refusal .number) 0)
       (λ z. rw z (going-taken mostWaiting (omega arith) x g (c .forward) (eqb-true _ _ z)))
       (λ z. rw z (going-refused mostWaiting (omega arith) x g (c .forward) (eqb-false _ _ z)));
 }

@@ -10,6 +10,10 @@ call-promised = record {
     demand-1 = promised .demand-1 .of-replay shop sheet trace room (replayedOf r exit) e;
     demand-2 = promised .demand-2 shop sheet trace room (replayedOf r exit) e;
     is-call = λ inputs. (record { room = room; result = replayedOf r exit; inputs = inputs; called = e }, refl, refl);
+    unmet = record {
+      named = promised .unmet-is-named shop sheet trace room (replayedOf r exit) e;
+      first = promised .unmet-is-first shop sheet trace room (replayedOf r exit) e;
+    };
   };
   definitions = promised;
 }

@@ -8,16 +8,16 @@ use mathlib.Core.List.{List, [], _++_}
 use lib.ListN.{length, take, drop}
 use borrow.Author.Tests.{lt-leb}
 use Rattle.hgn.specs.Questions as Questions
-use Rattle.hgn.specs.Questions.{_asks_, Verdict, passed, refused, firstNo, answered}
-use Rattle.hgn.specs.State.{State}
+use Rattle.hgn.specs.Questions.{withoutAtom, _asks_, Verdict, passed, refused, firstNo, answered}
+use Rattle.hgn.specs.State.{State, noAtom}
 use Rattle.hgn.specs.Run.{problemOf, Deed, Outcome, stopped, accepted, run, planOf}
 use Rattle.hgn.specs.Shop.{domain, actionCount, shopQuestions}
 use Rattle.hgn.specs.Order.{order as meaning, orderQuestions}
 use Rattle.hgn.specs.Trace.{stepCount, stepsOf, traceQuestions, checkTrace}
 use Rattle.hgn.specs.Replay as Replay
 use Rattle.hgn.specs.Replay.{rulesOf, Replayed, refusal, acceptance, reported, inputQuestions, checkReplay, replay}
-use Rattle.hgn.proofs.Questions.FirstNo.{append-passed, append-refused, refused-number, answered-passed}
-use Rattle.hgn.proofs.Questions.Numbers.{of-trace, run-numbers, not-zero}
+use Rattle.hgn.proofs.Questions.FirstNo.{append-passed, append-refused, refused-number, refused-unnamed, answered-passed}
+use Rattle.hgn.proofs.Questions.Numbers.{of-trace, run-not-zero, not-zero}
 use Rattle.hgn.proofs.Sheets.Checked.{shop-of-order, order-of-trace, shop-counts}
 use Rattle.hgn.proofs.Run.Replay.{inputs-passed, replay-refused, replay-passed, verdictOf, run-first}
 use Rattle.hgn.proofs.Sheets.Trace.{trace-sizes}
@@ -37,14 +37,14 @@ module _ (shop order trace room : List ℕ) where
   Gives r exit = replayedOf r exit ≡ replay shop order trace room
 
   -- A refusal at a question before the run.
-  before-run : (q : Questions.Refusal) → checkReplay shop order trace room ≡ refused q → (r : Answer)
+  before-run : (q : Questions.Failure) → checkReplay shop order trace room ≡ refused q → (r : Answer)
       → answerOf r ≡ refusal [] q .answer → Gives r room
   unfolding refusal
   before-run q e r a = ap (λ (x : Replay.Answer). record { answer = x; room = room }) a ∙ sym (replay-refused shop order trace room q e)
 
   -- A sheet is refused.
   pub sheet-refused : (v : Refusal) → refusalOf v ≡ answered (checkTrace shop order trace) → v .number ≢ 0 → (r : Answer)
-      → answerOf r ≡ refusal [] (refusalOf v) .answer → Gives r room
+      → answerOf r ≡ refusal [] (withoutAtom (refusalOf v)) .answer → Gives r room
   unfolding checkReplay inputQuestions checkTrace
   sheet-refused v e z r a = go (checkTrace shop order trace) refl
     where
@@ -52,7 +52,9 @@ module _ (shop order trace room : List ℕ) where
       go passed w = absurd (z (ap (λ (x : Questions.Refusal). x .number) (e ∙ ap answered w)))
       go (refused q) w =
           before-run q (append-refused (shopQuestions shop ++ orderQuestions shop order ++ traceQuestions trace) _ q w) r
-          (a ∙ ap (λ (x : Questions.Refusal). refusal [] x .answer) (e ∙ ap answered w))
+          (a ∙ ap (λ (x : Questions.Refusal). refusal [] (withoutAtom x) .answer) (e ∙ ap answered w)
+          ∙ sym (ap (λ (f : Questions.Failure). refusal [] f .answer)
+          (refused-unnamed (shopQuestions shop ++ orderQuestions shop order ++ traceQuestions trace) (of-trace (λ k a. a ≡ noAtom) (λ k l. refl) shop order trace) q w)))
 
   -- A check that answers 0 has passed.
   pub sheet-passes : (v : Refusal) → refusalOf v ≡ answered (checkTrace shop order trace) → v .number ≡ 0 → checkTrace shop order trace ≡ passed
@@ -61,10 +63,10 @@ module _ (shop order trace room : List ℕ) where
 
   module _ (ok : checkTrace shop order trace ≡ passed) where
     -- The room is too short.
-    pub room-short : length room < stepCount trace → (r : Answer) → answerOf r ≡ refusal [] ((24 asks false) .refusal) .answer → Gives r room
+    pub room-short : length room < stepCount trace → (r : Answer) → answerOf r ≡ refusal [] ((24 asks false) .failure) .answer → Gives r room
     unfolding checkReplay inputQuestions checkTrace firstNo
     room-short h r a =
-        before-run ((24 asks false) .refusal)
+        before-run ((24 asks false) .failure)
         (append-passed (shopQuestions shop ++ orderQuestions shop order ++ traceQuestions trace) _ ok ∙ rw (lt-leb (stepCount trace) (length room) h)) r a
 
     module _ (fits : stepCount trace ≤ length room) where
@@ -107,7 +109,7 @@ module _ (shop order trace room : List ℕ) where
             go : (o : Outcome) → outcome ≡ o → Gives r exit
             go (stopped q) e =
                 let f = run-first (rulesOf shop) 0 (problemOf (meaning order)) (stepsOf trace) ∙ ap verdictOf e in
-                absurd (refused-number (λ k. k ≢ 0) _ (run-numbers (λ k. k ≢ 0) not-zero (rulesOf shop) 0 (problemOf (meaning order)) (stepsOf trace)) q f
+                absurd (refused-number (λ k a. k ≢ 0) _ (run-not-zero (rulesOf shop) 0 (problemOf (meaning order)) (stepsOf trace)) q f
                 (sym (ap (λ (x : Replay.Answer). x .refusal .number) (answers (stopped q) e)) ∙ z))
             go (accepted deeds last) e =
                 ap₂ {C = Replayed} (λ (x : Replay.Answer) (l : List ℕ). record { answer = x; room = l }) (answers (accepted deeds last) e)

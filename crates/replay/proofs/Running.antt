@@ -6,7 +6,7 @@ use mathlib.Core.Path.{_≡_, refl, ap, ap₂, sym, _∙_}
 use mathlib.Core.List.{List, [], _∷_, _++_}
 use lib.ListN.{length, getD, drop, length-append, drop-of-length-le}
 use lib.Seq.{drop-cons}
-use Rattle.hgn.specs.Questions.{Refusal, placed}
+use Rattle.hgn.specs.Questions.{Failure, failedAt}
 use Rattle.hgn.specs.State.{State}
 use Rattle.hgn.specs.Run.{Step, Problem, Rules, Deed, refused, taken, stepped, Outcome, stopped, accepted, prepend, ended, runBy, run, planOf, costOf}
 use Rattle.hgn.proofs.Run.Runs.{resumed, run-cons}
@@ -23,7 +23,7 @@ unfolding prependAll
 prepended-one [] deed o = refl
 prepended-one (d ∷ deeds) deed o = ap (prepend d) (prepended-one deeds deed o)
 
-pub prepended-stopped : (deeds : List Deed) (q : Refusal) → prependAll deeds (stopped q) ≡ stopped q
+pub prepended-stopped : (deeds : List Deed) (q : Failure) → prependAll deeds (stopped q) ≡ stopped q
 unfolding prependAll prepend
 prepended-stopped [] q = refl
 prepended-stopped (d ∷ deeds) q = ap (prepend d) (prepended-stopped deeds q)
@@ -86,12 +86,12 @@ module _ (r : Rules) (xs : List Step) (P₀ : Problem) where
         }
 
     -- A step that is refused ends the run.
-    pub running-stop : (q : Refusal) → stepped r i P x ≡ refused q → run r 0 P₀ xs ≡ stopped (placed i q)
+    pub running-stop : (q : Failure) → stepped r i P x ≡ refused q → run r 0 P₀ xs ≡ stopped (failedAt i q)
     unfolding resumed
     running-stop q e =
         going .ran
         ∙ ap (prependAll (going .deeds)) (onward ∙ ap (resumed (stepped r) i (drop (i + 1) xs)) e)
-        ∙ prepended-stopped (going .deeds) (placed i q)
+        ∙ prepended-stopped (going .deeds) (failedAt i q)
 
   -- After the last step.
   pub running-end : (i : ℕ) (P : Problem) (count cost : ℕ) (going : Running r xs P₀ i P count cost) → length xs ≤ i

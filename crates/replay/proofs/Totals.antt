@@ -9,7 +9,7 @@ use mathlib.Core.List.{List, [], _∷_}
 use lib.Dec.{eqb}
 use lib.ListN.{length, getD, take, drop}
 use Rattle.hgn.specs.Meaning.{Domain}
-use Rattle.hgn.specs.Questions.{Refusal, _asks_, placed, allAt, firstNo}
+use Rattle.hgn.specs.Questions.{Failure, _asks_, failedAt, allAt, firstNo}
 use Rattle.hgn.specs.Run as Run
 use Rattle.hgn.specs.Run.{Step, actionAt, Deed, refused, taken, stepped, endQuestions, planOf, costOf}
 use Rattle.hgn.specs.Shop.{domain}
@@ -49,7 +49,7 @@ ended-answer : (d : Domain) (steps : ℕ) (deeds : List Deed) (P : Run.Problem)
 unfolding Run.ended endQuestions firstNo allAt reported acceptance
 ended-answer d steps deeds P = by-test (eqb (length (P .waiting)) 0)
     (λ z. rw (z, Run.ended, prepended-accepted deeds (P .state)) refl)
-    (λ z. rw (z, Run.ended, prepended-stopped deeds (placed steps ((33 asks false) .refusal))) refl)
+    (λ z. rw (z, Run.ended, prepended-stopped deeds (failedAt steps ((33 asks false) .failure))) refl)
 
 -- A run in progress, and its next step.
 module _ (shop trace : List ℕ) (fits : 1 + (stepCount trace + stepCount trace) ≤ length trace) (P₀ : Run.Problem)
@@ -62,8 +62,8 @@ module _ (shop trace : List ℕ) (fits : 1 + (stepCount trace + stepCount trace)
   next-inside = omega (arith, steps-length trace fits)
 
   -- Refused, the run ends.
-  pub run-stops : (q : Refusal) → stepped (rulesOf shop) i P (record { move = move; place = place }) ≡ refused q
-      → refusal [] (placed i q) .answer ≡ runAnswer shop trace P₀
+  pub run-stops : (q : Failure) → stepped (rulesOf shop) i P (record { move = move; place = place }) ≡ refused q
+      → refusal [] (failedAt i q) .answer ≡ runAnswer shop trace P₀
   unfolding reported
   run-stops q e =
       sym (ap (λ (o : Run.Outcome). reported (domain shop) (stepCount trace) [] o .answer)

@@ -10,7 +10,7 @@ use sheet_check::rows::word;
 use sheet_check::sizes::ShopSizes;
 use sheet_check::sizes::TraceSizes;
 use sheet_index::index::Tables;
-use sheet_rows::refusal::Refusal;
+use step::failure::Failure;
 ghost use mathlib.Core.Path.{_≡_};
 ghost use Prim.Native.Nat.{suc, _≤_, _+_};
 ghost use lib.ListN.{length, take, drop};
@@ -59,10 +59,10 @@ pub fn replay<'a>(shop: &'a [u16], order: &'a [u16], trace: &[u16], plan: &mut [
 {
     let refusal = check::check_trace(shop, order, trace);
     if refusal.number != 0 {
-        return Answer::refused(refusal);
+        return Answer::refused(Failure::of(refusal));
     }
     if plan.len() < word(trace, TraceSizes::STEPS) as usize {
-        return Answer::refused(Refusal::by(24));
+        return Answer::refused(Failure::by(24));
     }
     let answer = run_checked(shop, order, trace);
     if answer.refusal.number != 0 {

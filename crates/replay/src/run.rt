@@ -9,7 +9,9 @@ use sheet_check::rows::word;
 use sheet_check::sizes::TraceSizes;
 use sheet_index::operators;
 use sheet_rows::refusal::Refusal;
+use state::atoms;
 use state::atoms::State;
+use step::failure::Failure;
 use step::moves::Move;
 use step::moves::Step;
 use step::questions::Decision;
@@ -81,8 +83,8 @@ pub fn run<'a>(
         i += 1;
         let decision = taking::take(shop, order, tables, atoms, waiting, step, Goals::MOST);
         match decision {
-            Decision::Refused(refusal) => {
-                return Answer::refused(refusal.at(number));
+            Decision::Refused(failure) => {
+                return Answer::refused(failure.at(number));
             }
             Decision::Allowed(known) => {
                 totals = totals.with(shop, tables, known);
@@ -108,7 +110,8 @@ fn ended(
             state: State { atoms: last },
             count: totals.count,
             cost: totals.cost,
+            atom: atoms::NO_ATOM,
         };
     }
-    Answer::refused(Refusal::by(33).at(steps))
+    Answer::refused(Failure::by(33).at(steps))
 }

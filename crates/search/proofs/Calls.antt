@@ -30,7 +30,7 @@ module _ (shop sheet : List ℕ) (depth : ℕ) (room : List ℕ) where
   Gives r exit = searchedOf r exit ≡ search shop sheet depth room
 
   -- It refuses by the first no.
-  refuses : (q : Questions.Refusal) → firstNo (searchQuestions shop sheet depth room) ≡ refused q → (r : Refusal) → refusalOf r ≡ q → Gives r room
+  refuses : (q : Questions.Failure) → firstNo (searchQuestions shop sheet depth room) ≡ refused q → (r : Refusal) → refusalOf r ≡ q .refusal → Gives r room
   unfolding noTrace
   refuses q e r a = ap (λ (x : Questions.Refusal). answer x room) a ∙ sym (search-refused shop sheet depth room q e)
 
@@ -49,12 +49,12 @@ module _ (shop sheet : List ℕ) (depth : ℕ) (room : List ℕ) where
 
   module _ (ok : checkOrder shop sheet ≡ passed) where
     -- The depth is too large.
-    pub too-deep : mostDepth < depth → (r : Refusal) → refusalOf r ≡ (41 asks false) .refusal → Gives r room
+    pub too-deep : mostDepth < depth → (r : Refusal) → refusalOf r ≡ (41 asks false) .failure .refusal → Gives r room
     too-deep h = refuses _ (depth-refused shop sheet depth room ok (lt-leb depth mostDepth h))
 
     module _ (few : depth ≤ mostDepth) where
       -- The room is too short.
-      pub room-short : length room < 1 + 2 * depth → (r : Refusal) → refusalOf r ≡ (42 asks false) .refusal → Gives r room
+      pub room-short : length room < 1 + 2 * depth → (r : Refusal) → refusalOf r ≡ (42 asks false) .failure .refusal → Gives r room
       room-short h = refuses _ (room-refused shop sheet depth room ok (le-leb depth mostDepth few) (lt-leb (1 + 2 * depth) (length room) h))
 
       module _ (fits : 1 + 2 * depth ≤ length room) (f : Shortest) (e : shortestOf f ≡ searched shop sheet depth) where
@@ -65,9 +65,9 @@ module _ (shop sheet : List ℕ) (depth : ℕ) (room : List ℕ) where
             ∙ ap (λ (o : Option (List Step)). firstNo (43 asks isFound o ∷ [])) (sym e)
 
         -- None is found.
-        pub no-trace : f .steps .found ≡ false → (r : Refusal) → refusalOf r ≡ (43 asks false) .refusal → Gives r room
+        pub no-trace : f .steps .found ≡ false → (r : Refusal) → refusalOf r ≡ (43 asks false) .failure .refusal → Gives r room
         unfolding firstNo isFound
-        no-trace b = refuses _ (asked ∙ rw b)
+        no-trace b = refuses ((43 asks false) .failure) (asked ∙ rw b)
 
         -- The trace is written.
         pub trace-found : f .steps .found ≡ true → f .length ≤ length (f .steps .moves) → f .length ≤ length (f .steps .places)

@@ -9,7 +9,7 @@ use mathlib.Core.Option.{Option, none, Option·map}
 use lib.Dec.{leb}
 use lib.ListN.{length}
 use borrow.Author.Tests.{ltb-true, lt-ltb, leb-false}
-use Rattle.hgn.specs.Questions.{Refusal}
+use Rattle.hgn.specs.Questions.{Failure}
 use Rattle.hgn.specs.Meaning.{networkOf, nodeOf}
 use Rattle.hgn.specs.State.{State}
 use Rattle.hgn.specs.Network as Network
@@ -19,8 +19,8 @@ use Rattle.hgn.specs.Shop.{domain, actionCount, methodCount}
 use Rattle.hgn.specs.Replay.{rulesOf}
 use Rattle.hgn.proofs.Run.Steps.{Moved, by-release, by-action, by-method, took}
 use Rattle.hgn.proofs.Search.Waits.{one-released, none-lost}
-use Rattle.sheet_rows.specs.Refusals.{refusalOf}
-use Rattle.sheet_rows.specs.declared.refusal.Refusal as Code
+use Rattle.step.specs.Failures.{failureOf}
+use Rattle.step.specs.declared.failure.Failure as Code
 use Rattle.sheet_index.specs.Index.{spanRows}
 use Rattle.sheet_index.specs.Tables.{Indexed}
 use Rattle.network.specs.Entries.{waitingOf}
@@ -99,7 +99,7 @@ module _ (r : Rules) (k : ℕ) (P₀ : Problem) (y : Step) (n : ℕ) (P : Proble
       go (refused q) e = refl
       go (taken deed P′) e = rw (h deed P′ e) refl
 
-  refused-none : (q : Refusal) → stepped r n P x ≡ refused q → tried k r P₀ y n P x ≡ none
+  refused-none : (q : Failure) → stepped r n P x ≡ refused q → tried k r P₀ y n P x ≡ none
   unfolding behind
   refused-none q e = ap found e
 
@@ -190,7 +190,7 @@ suffices-least shop P least left few none-below = go (leb least left) refl
 module _ {shop order table : List ℕ} (ix : Indexed shop order table) (s : State) (ws : List ℕ) (x : Choice) (inside : x .place .0 < countIn ws)
     (known : Known (actionCount shop) (methodCount shop) (x .mv))
     (is-free : free (listIn shop order ws) (goalAt (listIn shop order ws) (x .place .0)) ≡ true) {goal : Entry} (here : goal ≡ entryIn ws (x .place .0))
-    {count : ℕ} (counts : count ≡ countIn ws) {q : Code.Refusal} (said : Answers shop order s (goal .rows) (record { count = count; limit = mostWaiting }) (knownOf (x .mv)) q) where
+    {count : ℕ} (counts : count ≡ countIn ws) {q : Code.Failure} (said : Answers shop order s (goal .rows) (record { count = count; limit = mostWaiting }) (knownOf (x .mv)) q) where
   abbrev P : Problem
   P = problemWith shop order s ws
 
@@ -207,25 +207,25 @@ module _ {shop order table : List ℕ} (ix : Indexed shop order table) (s : Stat
   below : x .place .0 < length (P .waiting)
   below = rw (list-length shop order ws) inside
 
-  pub not-taken : (q .number ≡ 0 → ⊥) → NotEffective shop P x
+  pub not-taken : (q .refusal .number ≡ 0 → ⊥) → NotEffective shop P x
   not-taken z =
       inr λ n. (
-        refusalOf q,
-        own-refuses (rulesOf shop) n P (moveNumber (x .mv)) (x .place .0) below (x .mv) (number-read ix (x .mv) known) is-free (refusalOf q)
-            (own-told (rulesOf shop) n (x .place .0) P (x .mv) (refusalOf q) (said n P (x .place .0) faces) .1 z .0),
+        failureOf q,
+        own-refuses (rulesOf shop) n P (moveNumber (x .mv)) (x .place .0) below (x .mv) (number-read ix (x .mv) known) is-free (failureOf q)
+            (own-told (rulesOf shop) n (x .place .0) P (x .mv) (failureOf q) (said n P (x .place .0) faces) .1 z .0),
       )
 
-  pub is-taken : q .number ≡ 0 → hasNoEffect (domain shop) s (knownOf (x .mv)) ≡ false → Effective shop P x
+  pub is-taken : q .refusal .number ≡ 0 → hasNoEffect (domain shop) s (knownOf (x .mv)) ≡ false → Effective shop P x
   is-taken z i = record {
     taking = record {
       inside = below;
       known = known;
       fits = rw (list-length shop order ws ∙ sym counts)
           (own-room shop order s (goal .rows) count mostWaiting 0 (x .place .0) P faces (omega arith) (x .mv)
-          (own-told (rulesOf shop) 0 (x .place .0) P (x .mv) (refusalOf q) (said 0 P (x .place .0) faces) .0 z));
+          (own-told (rulesOf shop) 0 (x .place .0) P (x .mv) (failureOf q) (said 0 P (x .place .0) faces) .0 z));
       comes = λ n.
           own-takes (rulesOf shop) n P (moveNumber (x .mv)) (x .place .0) below (x .mv) (number-read ix (x .mv) known) is-free
-          (own-told (rulesOf shop) n (x .place .0) P (x .mv) (refusalOf q) (said n P (x .place .0) faces) .0 z);
+          (own-told (rulesOf shop) n (x .place .0) P (x .mv) (failureOf q) (said n P (x .place .0) faces) .0 z);
     };
     changes = i;
   }

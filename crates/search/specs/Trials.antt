@@ -5,7 +5,7 @@ use mathlib.Core.Bool.{Bool, true, false}
 use mathlib.Core.Logic.{_⊎_}
 use mathlib.Core.List.{List}
 use mathlib.Core.Option.{Option, none}
-use Rattle.hgn.specs.Questions.{Refusal}
+use Rattle.hgn.specs.Questions.{Failure}
 use Rattle.hgn.specs.State.{State}
 use Rattle.hgn.specs.Network.{mostWaiting}
 use Rattle.hgn.specs.Run.{Step, Problem, Rules, refused, stepped}
@@ -58,7 +58,7 @@ pub record Effective (shop : List ℕ) (P : Problem) (x : Choice) : Type 0 where
 
 -- The step is refused, or is an action that leaves the state as it is.
 abbrev pub NotEffective : List ℕ → Problem → Choice → Type 0
-NotEffective shop P x = (hasNoEffect (domain shop) (P .state) (knownOf (x .mv)) ≡ true) ⊎ ((n : ℕ) → (q : Refusal) × (stepped (rulesOf shop) n P (stepOf x) ≡ refused q))
+NotEffective shop P x = (hasNoEffect (domain shop) (P .state) (knownOf (x .mv)) ≡ true) ⊎ ((n : ℕ) → (f : Failure) × (stepped (rulesOf shop) n P (stepOf x) ≡ refused f))
 
 abbrev pub MayTake : List ℕ → Problem → Choice → Bool → Type 0
 MayTake shop P x true = Effective shop P x

@@ -9,7 +9,7 @@ use search_pruning::rules;
 use sheet_check::check::Shop;
 use sheet_index::index::Span;
 use sheet_index::operators;
-use sheet_rows::refusal::Refusal;
+use step::failure::Failure;
 use step::moves::Choice;
 use step::moves::Move;
 use step::questions;
@@ -30,8 +30,8 @@ ghost use Rattle.search_pruning.specs.Tests.{crowded, stepOf};
 ghost use Rattle.search.specs.Trials.{Lent, MayTake, Opens, Suffices};
 
 // The first no of a move's own questions, at a goal with these rows and under this load. A replay's step asks them by a function of the same
-// contract, `move_refusal` of `step`: a function that both call was compiled into neither, and replays were slower with it.
-fn own_refusal<'a>(
+// contract, `move_failure` of `step`: a function that both call was compiled into neither, and replays were slower with it.
+fn own_failure<'a>(
     shop: &'a [u16],
     order: &'a [u16],
     tables: &[u16],
@@ -39,18 +39,18 @@ fn own_refusal<'a>(
     known: Move,
     goal: Span,
     load: Load,
-) -> Refusal
+) -> Failure
     requires { ⌜ Indexed (now shop) (now order) (now tables) ⌝ }
     requires { ⌜ Known (actionCount (now shop)) (methodCount (now shop)) known × (load .count ≤ mostWaiting) ⌝ }
     ensures { λ r. ⌜ Answers (now (shop .entry)) (now (order .entry)) (now (atoms .entry)) goal load (knownOf known) r ⌝ }
 {
     match known {
-        Move::Release => questions::release_refusal(shop, order, atoms, goal),
+        Move::Release => questions::release_failure(shop, order, atoms, goal),
         Move::Act(action) => {
             let rows = operators::action_part(shop, tables, action);
-            questions::action_refusal(shop, order, atoms, rows, goal)
+            questions::action_failure(shop, order, atoms, rows, goal)
         }
-        Move::Use(method) => questions::method_refusal(
+        Move::Use(method) => questions::method_failure(
             shop,
             order,
             tables,
@@ -81,7 +81,8 @@ fn may_take<'a>(
         limit: Goals::MOST,
     };
     let goal = goals::entry_at(goals, choice.place);
-    let refusal = own_refusal(shop, order, tables, atoms, mv, goal.rows, load);
+    let failure = own_failure(shop, order, tables, atoms, mv, goal.rows, load);
+    let refusal = failure.refusal;
     if refusal.number != 0 {
         return false;
     }

@@ -1,5 +1,6 @@
--- How the code's moves and steps stand for the definitions' own.
+-- How the code's moves, failures and steps stand for the definitions' own.
 pub mod Moves
+pub mod Failures
 pub mod Steps
 pub mod Deciding
 pub mod Taking

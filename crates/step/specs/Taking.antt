@@ -8,8 +8,8 @@ use Rattle.hgn.specs.Network.{free, goalAt}
 use Rattle.hgn.specs.Run as Run
 use Rattle.hgn.specs.Run.{Problem, strict, deedOf, moved, refused, taken, stepped}
 use Rattle.hgn.specs.Shop.{domain, actionCount, methodCount}
-use Rattle.sheet_rows.specs.Refusals.{refusalOf}
 use Rattle.step.specs.Moves.{Known, knownOf}
+use Rattle.step.specs.Failures.{failureOf}
 use Rattle.step.specs.Deciding.{WithinLimit}
 use Rattle.step.specs.declared.moves.Move.{Move}
 use Rattle.step.specs.declared.moves.Choice.{Choice}
@@ -56,5 +56,5 @@ pub record TakenBy (limit : ℕ) (shop order : List ℕ) (n : ℕ) (x : Run.Step
 -- What a step answers under 000's rules with this limit, and what it leaves; refused, all is as it was.
 abbrev pub Took : ℕ → List ℕ → List ℕ → ℕ → Run.Step → State → List ℕ → Decision → State → List ℕ → Type 0
 Took limit shop order n x s ws (Refused q) s′ ws′ =
-    (stepped (strict limit (domain shop)) n (problemWith shop order s ws) x ≡ refused (refusalOf q)) × (s′ ≡ s) × (ws′ ≡ ws)
+    (stepped (strict limit (domain shop)) n (problemWith shop order s ws) x ≡ refused (failureOf q)) × (s′ ≡ s) × (ws′ ≡ ws)
 Took limit shop order n x s ws (Allowed m) s′ ws′ = TakenBy limit shop order n x m s ws s′ ws′

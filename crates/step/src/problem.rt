@@ -1,8 +1,8 @@
 // The record that a step moves forward: the atoms, and the words of the waiting goals. Document 01, "How a derivation runs".
+use crate::failure::Failure;
 use network::goals::Goals;
 use sheet_check::check::Shop;
 use sheet_index::operators;
-use sheet_rows::refusal::Refusal;
 use sheet_rows::tag;
 use state::atoms;
 ghost use mathlib.Core.Path.{_≡_};
@@ -17,18 +17,18 @@ pub struct Problem {
     pub waiting: [u16; Goals::WORDS],
 }
 
-// What a step comes to: no refusal and the next record; or the first question that fails and the record as it was.
+// What a step comes to: no refusal and the next record; or what the first question that fails tells, and the record as it was.
 pub struct Stepped {
-    pub refusal: Refusal,
+    pub failure: Failure,
     pub problem: Problem,
 }
 
 impl Stepped {
-    pub fn refused(refusal: Refusal, problem: Problem) -> Stepped
-        ensures { λ r. ⌜ (r .refusal ≡ refusal) × (r .problem ≡ problem) ⌝ }
+    pub fn refused(failure: Failure, problem: Problem) -> Stepped
+        ensures { λ r. ⌜ (r .failure ≡ failure) × (r .problem ≡ problem) ⌝ }
     {
         Stepped {
-            refusal: refusal,
+            failure: failure,
             problem: problem,
         }
     }

@@ -1,4 +1,5 @@
-// A step's questions, answered before anything changes. Document 01, "Questions".
+// A step's questions, answered before anything changes. Document 01, "Questions"; document 02, Req 01.
+use crate::failure::Failure;
 use crate::moves::Move;
 use crate::moves::Read;
 use crate::moves::Step;
@@ -9,9 +10,9 @@ use sheet_check::sizes::ShopSizes;
 use sheet_index::index::Part;
 use sheet_index::index::Span;
 use sheet_index::operators;
-use sheet_rows::refusal::Refusal;
 use sheet_rows::tag;
 use state::literals;
+use state::literals::Test;
 use state::parts;
 ghost use mathlib.Core.Path.{_≡_};
 ghost use Prim.Native.Nat.{_+_, _≤_, _<_};
@@ -29,7 +30,7 @@ ghost use Rattle.hgn.specs.Network.{mostWaiting};
 
 // The first question that fails, or the move that may be taken.
 pub enum Decision {
-    Refused(Refusal),
+    Refused(Failure),
     Allowed(Move),
 }
 
@@ -49,44 +50,50 @@ impl Load {
     }
 }
 
-// The first no of a release's own question at a goal by its rows: 29 where the goal does not hold.
-pub fn release_refusal<'a>(
+// The first no of a release's own question at a goal by its rows: 29 where the goal does not hold, with the first unmet atom of its first
+// alternative.
+pub fn release_failure<'a>(
     shop: &'a [u16],
     order: &'a [u16],
     atoms: &[bool; Shop::MOST_ATOMS as usize],
     goal: Span,
-) -> Refusal
+) -> Failure
     ensures { λ r. ⌜ ReleaseAnswers (now (shop .entry)) (now (order .entry)) (now (atoms .entry)) goal r ⌝ }
 {
-    if parts::goal_holds(atoms, shop, order, goal) {
-        return Refusal::none();
+    let test = parts::test_goal(atoms, shop, order, goal);
+    match test {
+        Test::Holds => Failure::none(),
+        Test::Fails(atom) => Failure::unmet(29, atom),
     }
-    Refusal::by(29)
 }
 
-// The first no of an action's own questions at a goal, both by their rows: 30 where its needs do not hold, 31 where it is not relevant.
-pub fn action_refusal<'a>(
+// The first no of an action's own questions at a goal, both by their rows: 30 where its needs do not hold, with the first unmet atom, 31 where
+// it is not relevant.
+pub fn action_failure<'a>(
     shop: &'a [u16],
     order: &'a [u16],
     atoms: &[bool; Shop::MOST_ATOMS as usize],
     rows: Part,
     goal: Span,
-) -> Refusal
+) -> Failure
     requires { ⌜ Lies (now shop) rows ⌝ }
     ensures { λ r. ⌜ ActionAnswers (now (shop .entry)) (now (order .entry)) (now (atoms .entry)) rows goal r ⌝ }
 {
-    if literals::all_hold(atoms, shop, rows, tag::NEEDS_TRUE, tag::NEEDS_FALSE) {
-        if parts::relevant_to(shop, order, rows, tag::MAKES_TRUE, tag::MAKES_FALSE, goal) {
-            return Refusal::none();
+    let needs = literals::test_literals(atoms, shop, rows, tag::NEEDS_TRUE, tag::NEEDS_FALSE);
+    match needs {
+        Test::Holds => {
+            if parts::relevant_to(shop, order, rows, tag::MAKES_TRUE, tag::MAKES_FALSE, goal) {
+                return Failure::none();
+            }
+            Failure::by(31)
         }
-        return Refusal::by(31);
+        Test::Fails(atom) => Failure::unmet(30, atom),
     }
-    Refusal::by(30)
 }
 
-// The first no of a method's own questions at a goal by its rows: 30 where its needs do not hold, 31 where it is not relevant, 32 where
-// more goals would wait than may.
-pub fn method_refusal<'a>(
+// The first no of a method's own questions at a goal by its rows: 30 where its needs do not hold, with the first unmet atom, 31 where it is
+// not relevant, 32 where more goals would wait than may.
+pub fn method_failure<'a>(
     shop: &'a [u16],
     order: &'a [u16],
     tables: &[u16],
@@ -94,29 +101,32 @@ pub fn method_refusal<'a>(
     method: u16,
     goal: Span,
     load: Load,
-) -> Refusal
+) -> Failure
     requires { ⌜ Indexed (now shop) (now order) (now tables) ⌝ }
     requires { ⌜ (method < methodCount (now shop)) × (load .count ≤ mostWaiting) ⌝ }
     ensures { λ r. ⌜ Answers (now (shop .entry)) (now (order .entry)) (now (atoms .entry)) goal load (Run.use-method method) r ⌝ }
 {
     let rows = operators::method_rows(shop, tables, method);
     let head = Part::of_shop(shop, rows.from, rows.first);
-    if literals::all_hold(atoms, shop, head, tag::NEEDS_TRUE, tag::NEEDS_FALSE) {
-        let nodes = operators::nodes_between(tables, rows.first, rows.end);
-        let last = Part::of_shop(shop, nodes.last, rows.end);
-        if parts::relevant_to(shop, order, last, tag::WANTED_TRUE, tag::WANTED_FALSE, goal) {
-            if load.allows(nodes.count) {
-                return Refusal::none();
+    let needs = literals::test_literals(atoms, shop, head, tag::NEEDS_TRUE, tag::NEEDS_FALSE);
+    match needs {
+        Test::Holds => {
+            let nodes = operators::nodes_between(tables, rows.first, rows.end);
+            let last = Part::of_shop(shop, nodes.last, rows.end);
+            if parts::relevant_to(shop, order, last, tag::WANTED_TRUE, tag::WANTED_FALSE, goal) {
+                if load.allows(nodes.count) {
+                    return Failure::none();
+                }
+                return Failure::by(32);
             }
-            return Refusal::by(32);
+            Failure::by(31)
         }
-        return Refusal::by(31);
+        Test::Fails(atom) => Failure::unmet(30, atom),
     }
-    Refusal::by(30)
 }
 
 // The first no of a move's own questions, at a goal with these rows and under this load.
-fn move_refusal<'a>(
+fn move_failure<'a>(
     shop: &'a [u16],
     order: &'a [u16],
     tables: &[u16],
@@ -124,18 +134,18 @@ fn move_refusal<'a>(
     known: Move,
     goal: Span,
     load: Load,
-) -> Refusal
+) -> Failure
     requires { ⌜ Indexed (now shop) (now order) (now tables) ⌝ }
     requires { ⌜ Known (actionCount (now shop)) (methodCount (now shop)) known × (load .count ≤ mostWaiting) ⌝ }
     ensures { λ r. ⌜ Answers (now (shop .entry)) (now (order .entry)) (now (atoms .entry)) goal load (knownOf known) r ⌝ }
 {
     match known {
-        Move::Release => release_refusal(shop, order, atoms, goal),
+        Move::Release => release_failure(shop, order, atoms, goal),
         Move::Act(action) => {
             let rows = operators::action_part(shop, tables, action);
-            action_refusal(shop, order, atoms, rows, goal)
+            action_failure(shop, order, atoms, rows, goal)
         }
-        Move::Use(method) => method_refusal(shop, order, tables, atoms, method, goal, load),
+        Move::Use(method) => method_failure(shop, order, tables, atoms, method, goal, load),
     }
 }
 
@@ -159,17 +169,18 @@ pub fn decide<'a>(
         let methods = word(shop, ShopSizes::METHODS);
         let reading = Move::read(step.mv, actions, methods);
         let Read::Readable(known) = reading else {
-            return Decision::Refused(Refusal::by(26));
+            return Decision::Refused(Failure::by(26));
         };
         if status.free {
             let goal = status.goal;
-            let refusal = move_refusal(shop, order, tables, atoms, known, goal.rows, load);
+            let failure = move_failure(shop, order, tables, atoms, known, goal.rows, load);
+            let refusal = failure.refusal;
             if refusal.number == 0 {
                 return Decision::Allowed(known);
             }
-            return Decision::Refused(refusal);
+            return Decision::Refused(failure);
         }
-        return Decision::Refused(Refusal::by(28));
+        return Decision::Refused(Failure::by(28));
     }
-    Decision::Refused(Refusal::by(25))
+    Decision::Refused(Failure::by(25))
 }

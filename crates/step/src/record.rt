@@ -1,10 +1,10 @@
 // One step on a record that is handed over. Document 01, "Questions".
+use crate::failure::Failure;
 use crate::moves::Step;
 use crate::problem::Problem;
 use crate::problem::Stepped;
 use crate::questions::Decision;
 use crate::taking;
-use sheet_rows::refusal::Refusal;
 ghost use Prim.Native.Nat.{_<_, _≤_};
 ghost use Rattle.hgn.specs.Network.{mostWaiting};
 ghost use Rattle.hgn.specs.Run.{strict, stepped};
@@ -34,11 +34,11 @@ pub fn step<'a>(
     let mut waiting = problem.waiting;
     let decision = taking::take(shop, order, tables, &mut atoms, &mut waiting, step, limit);
     match decision {
-        Decision::Refused(refusal) => Stepped::refused(refusal, problem),
+        Decision::Refused(failure) => Stepped::refused(failure, problem),
         Decision::Allowed(known) => {
-            let refusal = Refusal::none();
+            let failure = Failure::none();
             Stepped {
-                refusal: refusal,
+                failure: failure,
                 problem: Problem {
                     atoms: atoms,
                     waiting: waiting,

@@ -1,4 +1,5 @@
 // One step of a run, taken where state and waiting goals stand. Document 01, "How a derivation runs".
+use crate::failure::Failure;
 use crate::moves::Choice;
 use crate::moves::Move;
 use crate::moves::Step;
@@ -9,30 +10,30 @@ use crate::questions::Load;
 use network::goals;
 use network::goals::Goals;
 use sheet_check::check::Shop;
-use sheet_rows::refusal::Refusal;
 ghost use mathlib.Core.Path.{_≡_};
 ghost use mathlib.Core.List.{List};
 ghost use Prim.Native.Nat.{ℕ, _<_, _≤_};
 ghost use Rattle.hgn.specs.Network.{mostWaiting};
-ghost use Rattle.sheet_rows.specs.Refusals.{refusalOf};
+ghost use Rattle.step.specs.Failures.{failureOf};
 ghost use Rattle.sheet_index.specs.Tables.{Indexed};
 ghost use Rattle.network.specs.Entries.{orderOrigin};
 ghost use Rattle.step.specs.Deciding.{withQuestion27};
 ghost use Rattle.network.specs.Goals.{listIn};
 ghost use Rattle.step.specs.Taking.{ValidGoals, Going, MayApply, Applied, Took};
 
-// What is told of a refusal: 27 for 28 where no waiting goal is free.
-fn with_question_27(waiting: &[u16; Goals::WORDS], refusal: Refusal) -> Refusal
+// What is told of a step: 27 for 28 where no waiting goal is free.
+fn with_question_27(waiting: &[u16; Goals::WORDS], failure: Failure) -> Failure
     requires { ⌜ ((shop order : List ℕ) × ValidGoals shop order (now waiting)) ⌝ }
-    ensures { λ r. ⌜ ((shop order : List ℕ) → ValidGoals shop order (now (waiting .entry)) → refusalOf r ≡ withQuestion27 (listIn shop order (now (waiting .entry))) (refusalOf refusal)) ⌝ }
+    ensures { λ r. ⌜ ((shop order : List ℕ) → ValidGoals shop order (now (waiting .entry)) → failureOf r ≡ withQuestion27 (listIn shop order (now (waiting .entry))) (failureOf failure)) ⌝ }
 {
+    let refusal = failure.refusal;
     if refusal.number == 28 {
         if goals::any_free(waiting) {
-            return refusal;
+            return failure;
         }
-        return Refusal::by(27);
+        return Failure::by(27);
     }
-    refusal
+    failure
 }
 
 // A move is applied at the free goal of a place, where every question was answered yes.
@@ -87,7 +88,7 @@ pub fn take<'a>(
     };
     let decision = questions::decide(shop, order, tables, atoms, status, load, step);
     match decision {
-        Decision::Refused(refusal) => Decision::Refused(with_question_27(waiting, refusal)),
+        Decision::Refused(failure) => Decision::Refused(with_question_27(waiting, failure)),
         Decision::Allowed(known) => {
             let choice = Choice {
                 mv: known,

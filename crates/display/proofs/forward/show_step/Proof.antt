@@ -42,9 +42,9 @@ use Rattle.step.proofs.problem.Problem as P
 use Rattle.step.proofs.problem.Problem.Laws as P′
 use Rattle.step.proofs.moves.Step as X
 use Rattle.step.proofs.moves.Step.Laws as X′
-use Rattle.sheet_rows.specs.declared.refusal.Refusal.{Refusal}
-use Rattle.sheet_rows.proofs.refusal.Refusal as R
-use Rattle.sheet_rows.proofs.refusal.Refusal.Laws as R′
+use Rattle.step.specs.declared.failure.Failure.{Failure}
+use Rattle.step.proofs.failure.Failure as F
+use Rattle.step.proofs.failure.Failure.Laws as F′
 use Rattle.step.specs.declared.problem.Stepped.{Stepped}
 use Rattle.step.proofs.problem.Stepped as S
 use Rattle.step.proofs.problem.Stepped.Laws as S′
@@ -106,10 +106,10 @@ module _ {M : Type 1} (𝓤 : URA M) (H : Heap 𝓤) (A : Atoms 𝓤) (W : Given
       qed W (Both ν ∷ ‵ (lent ν l δ) ∷ ‵ (Own κs a) ∷ []) ∵ move ! (1 ∷ 2 ∷ []) $ fjoin ! $ move ! (1 ∷ 0 ∷ []) $ join ! $ frame ! $
       use0 W (raw (fact 𝓤 (Ready a h))) (factI 𝓤 (Ready a h) (emp 𝓤) few) $ use0 W (raw (fact 𝓤 (Checked a))) (factI 𝓤 (Checked a) (emp 𝓤) ok) $ done !
 
-  abbrev Told : GName → Refusal → Problem → Item 𝓤
+  abbrev Told : GName → Failure → Problem → Item 𝓤
   Told δ k p = given (Moved a h k p) (‵ (fres δ (P.the-row .coded .code p)))
 
-  forward-said : (ν l : ℕ) (δ : GName) (k : Refusal) → ent 𝓤 (ensured 𝓤 H A forward.ended (forward.clauses 𝓤 H A at-mem run) (ν ∷ [], κs) (bench l δ, a) tt k)
+  forward-said : (ν l : ℕ) (δ : GName) (k : Failure) → ent 𝓤 (ensured 𝓤 H A forward.ended (forward.clauses 𝓤 H A at-mem run) (ν ∷ [], κs) (bench l δ, a) tt k)
       (ex 𝓤 (λ (p : Problem). guard 𝓤 (Moved a h k p) (A .res δ (P.the-row .coded .code p))))
   forward-said ν l δ k =
       qed W (some (λ (ws : Lasts forward.ended (ν ∷ [], κs) (bench l δ, a)). ‵ (lasts forward.ended (ν ∷ [], κs) (bench l δ, a) ws) ⊛ raw (fact 𝓤 (Moved a h k (ws .0)))) ∷ []) ∵
@@ -117,22 +117,22 @@ module _ {M : Type 1} (𝓤 : URA M) (H : Heap 𝓤) (A : Atoms 𝓤) (W : Given
       show ! (λ (p : Problem). guard 𝓤 (Moved a h k p) (A .res δ (P.the-row .coded .code p))) (ws .0) $ check ! e $ keep ! (0 ∷ []) $ done !))
 
   -- the call of `made`
-  abbrev to-made : Refusal → Val → Problem → Made 𝓤 H A at-mem run .Ghost
+  abbrev to-made : Failure → Val → Problem → Made 𝓤 H A at-mem run .Ghost
   to-made k w p = ((tt, tt, tt, (k, (p, tt)), (w ∷ [], (LL.vals P.the-type P′.the-laws p, tt))), tt)
 
-  goes-made : (k : Refusal) (w : Val) (p : Problem) → Is R.the-row k (w ∷ []) → Is P.the-row p (LL.vals P.the-type P′.the-laws p) → ent 𝓤 (emp 𝓤) (Made 𝓤 H A at-mem run .pre (to-made k w p))
+  goes-made : (k : Failure) (w : Val) (p : Problem) → Is F.the-row k (w ∷ []) → Is P.the-row p (LL.vals P.the-type P′.the-laws p) → ent 𝓤 (emp 𝓤) (Made 𝓤 H A at-mem run .pre (to-made k w p))
   goes-made k w p isk isp =
       qed W [] ∵ nothing ! $ owned ! P.the-row (Is P.the-row) (LL.makes P.the-type P′.the-plain 𝓤 H A) p _ isp $ fjoin ! $
-      owned ! R.the-row (Is R.the-row) (LL.makes R.the-type R′.the-plain 𝓤 H A) k _ isk $ fjoin ! $
+      owned ! F.the-row (Is F.the-row) (LL.makes F.the-type F′.the-plain 𝓤 H A) k _ isk $ fjoin ! $
       nothing ! $ join ! $ nothing ! $ move ! (1 ∷ 0 ∷ []) $ done !
 
-  abbrev Is-made : Refusal → Problem → Stepped → Type 0
-  Is-made k p r = (r .refusal ≡ k) × (r .problem ≡ p)
+  abbrev Is-made : Failure → Problem → Stepped → Type 0
+  Is-made k p r = (r .failure ≡ k) × (r .problem ≡ p)
 
-  made-said : (k : Refusal) (p : Problem) (r : Stepped) → ent 𝓤 (ensured 𝓤 H A made.ended (made.clauses 𝓤 H A at-mem run) tt (k, (p, tt)) tt r) (fact 𝓤 (Is-made k p r))
+  made-said : (k : Failure) (p : Problem) (r : Stepped) → ent 𝓤 (ensured 𝓤 H A made.ended (made.clauses 𝓤 H A at-mem run) tt (k, (p, tt)) tt r) (fact 𝓤 (Is-made k p r))
   made-said k p r = exE 𝓤 _ (λ ws. snd∗ 𝓤 (sem 𝓤 H A (lasts made.ended tt (k, (p, tt)) ws)) (fact 𝓤 (Is-made k p r)))
 
-  exits : (r : Stepped) (u : Val) → Is P.the-row h (LL.vals P.the-type P′.the-laws h) → Moved a h (r .refusal) (r .problem)
+  exits : (r : Stepped) (u : Val) → Is P.the-row h (LL.vals P.the-type P′.the-laws h) → Moved a h (r .failure) (r .problem)
       → ent 𝓤 (⋆ 𝓤 H A (‵ (S.the-row .own r (u ∷ [])) ∷ Tokens ∷ ‵ (Own κs a) ∷ [])) (Post u)
   exits r u is e =
       qed W (‵ (S.the-row .own r (u ∷ [])) ∷ Tokens ∷ ‵ (Own κs a) ∷ []) ∵
@@ -165,14 +165,14 @@ module _ {M : Type 1} (𝓤 : URA M) (H : Heap 𝓤) (A : Atoms 𝓤) (W : Given
         calls-at ! fm (StepForward 𝓤 H A at-mem run) known-forward (to-forward ν l₆ δ)
         (and-then ! (load ! (from ! (stop !)) (look ! 5 refl)) (and-then ! (load ! (from ! (stop !)) (look ! 16 refl)) (and-then ! (load ! (from ! (stop !)) (look ! 14 refl))
         (and-then ! (load ! (from ! (stop !)) (look ! 12 refl)) (and-then ! (load ! (from ! (stop !)) (look ! 10 refl)) (no-more !)))))) (λ w.
-        use1 W (later (some (λ (k : Refusal). (Both ν ⊛ ‵ (R.the-row .own k (w ∷ [])))
+        use1 W (later (some (λ (k : Failure). (Both ν ⊛ ‵ (F.the-row .own k (w ∷ [])))
         ⊛ raw (ensured 𝓤 H A forward.ended (forward.clauses 𝓤 H A at-mem run) (ν ∷ [], κs) (bench l₆ δ, a) tt k)))) (id⊢ 𝓤 _) $
         await ! tt $ pick ! (λ k. split ! $ move ! (1 ∷ []) $ use1 W (some (Told δ k)) (forward-said ν l₆ δ k) $ pick ! (λ p. learn ! (λ e. move ! (1 ∷ []) $ split ! $ split ! $
         -- [ν's token; the tokens; the result; res; what is passed beside; the lender's part; room for _9; …]: the lifetime is ended, and the local lies there again
         lft-end ! tt $ move ! (0 ∷ 5 ∷ 3 ∷ []) $ use3 W (later (given (Is P.the-row p (LL.vals P.the-type P′.the-laws p)) (‵ (fat fullShare P′.mir l₆ 0 (LL.val P.the-type P′.the-laws p)))))
-        (back 𝓤 H A W ν l₆ δ p) $ await ! tt $ learn ! (λ isp. move ! (2 ∷ []) $ facts ! R.the-row (Is R.the-row) (shows 𝓤 H A R.the-row) k _ (λ isk.
+        (back 𝓤 H A W ν l₆ δ p) $ await ! tt $ learn ! (λ isp. move ! (2 ∷ []) $ facts ! F.the-row (Is F.the-row) (shows 𝓤 H A F.the-row) k _ (λ isk.
         -- [_6; the tokens; what is passed beside; room for _9; …; room for _7; …; what frees _6; _5; …; _1; …; room for _0; …]
-        land ! (from ! (stop !)) (init ! 7 refl (LL.lawful R.the-type R′.the-laws 𝓤 H A W .typed k _ isk .0)) $
+        land ! (from ! (stop !)) (init ! 7 refl (LL.lawful F.the-type F′.the-laws 𝓤 H A W .typed k _ isk .0)) $
         assigns ! (of-opd ! (load ! (from ! (stop !)) (look ! 0 refl))) (from ! (stop !)) (init ! 3 refl (typed-problem 𝓤 H A W p _ isp)) $
         -- `made`
         use0 W (raw (Made 𝓤 H A at-mem run .pre (to-made k w p))) (goes-made k w p isk isp) $
@@ -188,7 +188,7 @@ module _ {M : Type 1} (𝓤 : URA M) (H : Heap 𝓤) (A : Atoms 𝓤) (W : Given
         move ! (21 ∷ 22 ∷ []) $ free1 ! $ move ! (19 ∷ 20 ∷ []) $ free1 ! $
         move ! (17 ∷ 18 ∷ []) $ free1 ! $ move ! (15 ∷ 16 ∷ []) $ free1 ! $ move ! (13 ∷ 14 ∷ []) $ free1 ! $ move ! (11 ∷ 12 ∷ []) $ free1 ! $ move ! (1 ∷ 10 ∷ []) $ free1 ! $
         move ! (7 ∷ 8 ∷ []) $ free1 ! $ move ! (5 ∷ 6 ∷ []) $ free1 ! $ move ! (3 ∷ 4 ∷ []) $ free1 ! $ free0 ! $
-        by ! (exits r u is (subst (λ (y : Refusal). Moved a h y (r .problem)) (sym (er .0)) (subst (Moved a h k) (sym (er .1)) e)))))))))))))))))))))))))
+        by ! (exits r u is (subst (λ (y : Failure). Moved a h y (r .problem)) (sym (er .0)) (subst (Moved a h k) (sym (er .1)) e)))))))))))))))))))))))))
 
 module _ {M : Type 1} (𝓤 : URA M) (H : Heap 𝓤) (A : Atoms 𝓤) (W : Given 𝓤 H A) (at-mem : Memory → SProp 𝓤) (run : Routine → Fun 𝓤) where
   shown-walks : (C : Calls 𝓤 H) (Λ : Loops 𝓤 H) → FmC 𝓤 H (W .laws) C → Triple 𝓤 (C #display·forward·step-forward) (StepForward 𝓤 H A at-mem run)

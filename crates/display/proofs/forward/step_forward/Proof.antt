@@ -43,9 +43,9 @@ use denote.Triple.Clauses.{ensured, lasts}
 use denote.Triple.Walked.{says, Stays, stay-ref, walkOf, AllGo, goes-ref, Walks, ends-at, walked, walk-meets}
 use Rattle.hgn.specs.Network.{mostWaiting}
 use Rattle.step.specs.Steps as Steps
-use Rattle.sheet_rows.specs.declared.refusal.Refusal.{Refusal}
-use Rattle.sheet_rows.proofs.refusal.Refusal as R
-use Rattle.sheet_rows.proofs.refusal.Refusal.Laws as R′
+use Rattle.step.specs.declared.failure.Failure.{Failure}
+use Rattle.step.proofs.failure.Failure as F
+use Rattle.step.proofs.failure.Failure.Laws as F′
 use Rattle.step.specs.declared.problem.Problem.{Problem}
 use Rattle.step.specs.declared.problem.Stepped as Code
 use Rattle.step.proofs.problem.Problem as P
@@ -65,10 +65,10 @@ use Rattle.display.proofs.forward.record_of as record-of
 use Rattle.display.proofs.forward.record_of.Symbol as record-of-def
 use Rattle.display.proofs.forward.record_of.Symbol.{name as #display·forward·record-of}
 use Rattle.display.proofs.forward.record_of.Met as record-of-thm
-use Rattle.display.proofs.forward.refusal_of as refusal-of
-use Rattle.display.proofs.forward.refusal_of.Symbol as refusal-of-def
-use Rattle.display.proofs.forward.refusal_of.Symbol.{name as #display·forward·refusal-of}
-use Rattle.display.proofs.forward.refusal_of.Met as refusal-of-thm
+use Rattle.display.proofs.forward.failure_of as failure-of
+use Rattle.display.proofs.forward.failure_of.Symbol as failure-of-def
+use Rattle.display.proofs.forward.failure_of.Symbol.{name as #display·forward·failure-of}
+use Rattle.display.proofs.forward.failure_of.Met as failure-of-thm
 use Rattle.display.proofs.forward.step_forward.Key.{name as #display·forward·step-forward}
 use Rattle.display.proofs.forward.step_forward as forward
 use Rattle.display.proofs.forward.step_forward.Statement as stated
@@ -88,8 +88,8 @@ module _ {M : Type 1} (𝓤 : URA M) (H : Heap 𝓤) (A : Atoms 𝓤) (at-mem : 
   abbrev RecordOf : Contract 𝓤
   RecordOf = tripleOf 𝓤 H A record-of.signature (record-of.spec 𝓤 H A at-mem run)
 
-  abbrev RefusalOf : Contract 𝓤
-  RefusalOf = tripleOf 𝓤 H A refusal-of.signature (refusal-of.spec 𝓤 H A at-mem run)
+  abbrev FailureOf : Contract 𝓤
+  FailureOf = tripleOf 𝓤 H A failure-of.signature (failure-of.spec 𝓤 H A at-mem run)
 
 module _ {M : Type 1} (𝓤 : URA M) (H : Heap 𝓤) (A : Atoms 𝓤) (W : Given 𝓤 H A) (at-mem : Memory → SProp 𝓤) (run : Routine → Fun 𝓤) (κ : Lft) (κs : Lfts 2) (q : Share) (qs : Shares 2)
     (b o : ℕ) (γ : GName) (h : Problem) (a : Passed) where
@@ -141,7 +141,7 @@ module _ {M : Type 1} (𝓤 : URA M) (H : Heap 𝓤) (A : Atoms 𝓤) (W : Given
   typed-stepped : (r : Code.Stepped) (v : Val) → Is S.the-row r (v ∷ []) → Holds (hasTy S′.mir v) × WT v
   typed-stepped r v is = LL.lawful S.the-type S′.the-laws 𝓤 H A W .typed r (v ∷ []) is .0
 
-  -- the calls of `record_of` and of `refusal_of`, at what `step` gave
+  -- the calls of `record_of` and of `failure_of`, at what `step` gave
   abbrev to-record : Code.Stepped → Val → RecordOf 𝓤 H A at-mem run .Ghost
   to-record r v = ((tt, tt, tt, (r, tt), (v ∷ [], tt)), tt)
 
@@ -152,25 +152,25 @@ module _ {M : Type 1} (𝓤 : URA M) (H : Heap 𝓤) (A : Atoms 𝓤) (W : Given
   record-said : (r : Code.Stepped) (p : Problem) → ent 𝓤 (ensured 𝓤 H A record-of.ended (record-of.clauses 𝓤 H A at-mem run) tt (r, tt) tt p) (fact 𝓤 (p ≡ r .problem))
   record-said r p = exE 𝓤 _ (λ ws. snd∗ 𝓤 (sem 𝓤 H A (lasts record-of.ended tt (r, tt) ws)) (fact 𝓤 (p ≡ r .problem)))
 
-  abbrev to-refusal : Code.Stepped → Val → RefusalOf 𝓤 H A at-mem run .Ghost
+  abbrev to-refusal : Code.Stepped → Val → FailureOf 𝓤 H A at-mem run .Ghost
   to-refusal r v = ((tt, tt, tt, (r, tt), (v ∷ [], tt)), tt)
 
-  goes-refusal : (r : Code.Stepped) (v : Val) → Is S.the-row r (v ∷ []) → ent 𝓤 (emp 𝓤) (RefusalOf 𝓤 H A at-mem run .pre (to-refusal r v))
+  goes-refusal : (r : Code.Stepped) (v : Val) → Is S.the-row r (v ∷ []) → ent 𝓤 (emp 𝓤) (FailureOf 𝓤 H A at-mem run .pre (to-refusal r v))
   goes-refusal r v is =
       qed W [] ∵ nothing ! $ owned ! S.the-row (Is S.the-row) (LL.makes S.the-type S′.the-plain 𝓤 H A) r _ is $ fjoin ! $ nothing ! $ join ! $ nothing ! $ move ! (1 ∷ 0 ∷ []) $ done !
 
-  refusal-said : (r : Code.Stepped) (k : Refusal) → ent 𝓤 (ensured 𝓤 H A refusal-of.ended (refusal-of.clauses 𝓤 H A at-mem run) tt (r, tt) tt k) (fact 𝓤 (k ≡ r .refusal))
-  refusal-said r k = exE 𝓤 _ (λ ws. snd∗ 𝓤 (sem 𝓤 H A (lasts refusal-of.ended tt (r, tt) ws)) (fact 𝓤 (k ≡ r .refusal)))
+  failure-said : (r : Code.Stepped) (k : Failure) → ent 𝓤 (ensured 𝓤 H A failure-of.ended (failure-of.clauses 𝓤 H A at-mem run) tt (r, tt) tt k) (fact 𝓤 (k ≡ r .failure))
+  failure-said r k = exE 𝓤 _ (λ ws. snd∗ 𝓤 (sem 𝓤 H A (lasts failure-of.ended tt (r, tt) ws)) (fact 𝓤 (k ≡ r .failure)))
 
   -- the record and the refusal that are had at exit
-  moved : {r : Code.Stepped} {k : Refusal} {p : Problem} → Is-step r → k ≡ r .refusal → p ≡ r .problem → Moved a h k p
+  moved : {r : Code.Stepped} {k : Failure} {p : Problem} → Is-step r → k ≡ r .failure → p ≡ r .problem → Moved a h k p
   moved {r = r} {p = p} e ek ep =
-      subst (λ (y : Refusal). Moved a h y p) (sym ek) (subst (Moved a h (r .refusal)) (sym ep) e)
+      subst (λ (y : Failure). Moved a h y p) (sym ek) (subst (Moved a h (r .failure)) (sym ep) e)
 
-  abbrev Left : Refusal → Val → Problem → List (Item 𝓤)
-  Left k w p = ‵ (fobs γ (P.the-row .coded .code p)) ∷ ‵ (fbor κ (Body (mem P.the-row) b o γ)) ∷ ‵ (flft κ q) ∷ ‵ (R.the-row .own k (w ∷ [])) ∷ Tokens ∷ ‵ (Own κs a) ∷ []
+  abbrev Left : Failure → Val → Problem → List (Item 𝓤)
+  Left k w p = ‵ (fobs γ (P.the-row .coded .code p)) ∷ ‵ (fbor κ (Body (mem P.the-row) b o γ)) ∷ ‵ (flft κ q) ∷ ‵ (F.the-row .own k (w ∷ [])) ∷ Tokens ∷ ‵ (Own κs a) ∷ []
 
-  exits : (k : Refusal) (w : Val) (p : Problem) → Moved a h k p → ent 𝓤 (⋆ 𝓤 H A (Left k w p)) (Post w)
+  exits : (k : Failure) (w : Val) (p : Problem) → Moved a h k p → ent 𝓤 (⋆ 𝓤 H A (Left k w p)) (Post w)
   exits k w p e =
       qed W (Left k w p) ∵
       suffices ! _ (ends-at 𝓤 H A forward.ended stayed (forward.clauses 𝓤 H A at-mem run) W bound w k
@@ -178,7 +178,7 @@ module _ {M : Type 1} (𝓤 : URA M) (H : Heap 𝓤) (A : Atoms 𝓤) (W : Given
       feqI ! (List Val) (vptr b o ∷ []) (vptr b o ∷ []) refl $ fjoin3 ! $ move ! (0 ∷ 4 ∷ []) $ fjoin ! $ move ! (1 ∷ 3 ∷ []) $ join ! $ frame ! $ frame ! $ done !
 
   module _ (C : Calls 𝓤 H) (Λ : Loops 𝓤 H) (fm : FmC 𝓤 H (W .laws) C) (known-step : Triple 𝓤 (C #step·record·step) (ToStep 𝓤 H A at-mem run))
-      (known-record : Triple 𝓤 (C #display·forward·record-of) (RecordOf 𝓤 H A at-mem run)) (known-refusal : Triple 𝓤 (C #display·forward·refusal-of) (RefusalOf 𝓤 H A at-mem run)) where
+      (known-record : Triple 𝓤 (C #display·forward·record-of) (RecordOf 𝓤 H A at-mem run)) (known-refusal : Triple 𝓤 (C #display·forward·failure-of) (FailureOf 𝓤 H A at-mem run)) where
     walk : Are (Beside κs) (Ises (Beside κs)) a (machine a) → Checked a → Ready a h
         → ent 𝓤 (onEntry 𝓤 H A forward.signature (κ, κs) (q, qs) (bound .0 .3) (bound .0 .4)) (WpFn 𝓤 H C Λ code.function args Post)
     walk are ok few =
@@ -216,14 +216,14 @@ module _ {M : Type 1} (𝓤 : URA M) (H : Heap 𝓤) (A : Atoms 𝓤) (W : Given
         -- [what the record owns; the tokens; what is passed beside; the cell; the open borrow; obs; auth; room for _8; …; room for _0; …]
         land ! (from ! (stop !)) (init ! 7 refl (typed-problem 𝓤 H A W p u isp)) $
         assigns ! (of-opd ! (load ! (from ! (stop !)) (look ! 7 refl))) (from ! (hop ! (look ! 21 refl) (stop !))) (store-raw ! 3 refl (typed-problem 𝓤 H A W p u isp)) $
-        -- `refusal_of`
-        use0 W (raw (RefusalOf 𝓤 H A at-mem run .pre (to-refusal r v))) (goes-refusal r v isr) $
-        calls-at ! fm (RefusalOf 𝓤 H A at-mem run) known-refusal (to-refusal r v) (and-then ! (load ! (from ! (stop !)) (look ! 10 refl)) (no-more !)) (λ w.
-        use1 W (later (some (λ (k : Refusal). (‵ ftrue ⊛ ‵ (R.the-row .own k (w ∷ []))) ⊛ raw (ensured 𝓤 H A refusal-of.ended (refusal-of.clauses 𝓤 H A at-mem run) tt (r, tt) tt k)))) (id⊢ 𝓤 _) $
-        await ! tt $ pick ! (λ k. split ! $ move ! (1 ∷ []) $ use1 W (raw (fact 𝓤 (k ≡ r .refusal))) (refusal-said r k) $ heard ! (k ≡ r .refusal) (λ ek. split ! $ drop ! $
-        peeks ! R.the-row (Is R.the-row) (shows 𝓤 H A R.the-row) k _ (λ isk.
+        -- `failure_of`
+        use0 W (raw (FailureOf 𝓤 H A at-mem run .pre (to-refusal r v))) (goes-refusal r v isr) $
+        calls-at ! fm (FailureOf 𝓤 H A at-mem run) known-refusal (to-refusal r v) (and-then ! (load ! (from ! (stop !)) (look ! 10 refl)) (no-more !)) (λ w.
+        use1 W (later (some (λ (k : Failure). (‵ ftrue ⊛ ‵ (F.the-row .own k (w ∷ []))) ⊛ raw (ensured 𝓤 H A failure-of.ended (failure-of.clauses 𝓤 H A at-mem run) tt (r, tt) tt k)))) (id⊢ 𝓤 _) $
+        await ! tt $ pick ! (λ k. split ! $ move ! (1 ∷ []) $ use1 W (raw (fact 𝓤 (k ≡ r .failure))) (failure-said r k) $ heard ! (k ≡ r .failure) (λ ek. split ! $ drop ! $
+        peeks ! F.the-row (Is F.the-row) (shows 𝓤 H A F.the-row) k _ (λ isk.
         -- [the result; what the record owns; the tokens; what is passed beside; the cell; the open borrow; obs; auth; _8; …; room for _0; …]
-        land ! (from ! (stop !)) (init ! 24 refl (LL.lawful R.the-type R′.the-laws 𝓤 H A W .typed k _ isk .0)) $
+        land ! (from ! (stop !)) (init ! 24 refl (LL.lawful F.the-type F′.the-laws 𝓤 H A W .typed k _ isk .0)) $
         -- the borrow is closed at the new record
         move ! (4 ∷ 1 ∷ 5 ∷ 6 ∷ 7 ∷ []) $ closes ! tt P.the-row p (u ∷ []) b o $
         -- [obs; the borrow; its token; the result; the tokens; what is passed beside; _8; …; _0; …]
@@ -235,7 +235,7 @@ module _ {M : Type 1} (𝓤 : URA M) (H : Heap 𝓤) (A : Atoms 𝓤) (W : Given
 
 module _ {M : Type 1} (𝓤 : URA M) (H : Heap 𝓤) (A : Atoms 𝓤) (W : Given 𝓤 H A) (at-mem : Memory → SProp 𝓤) (run : Routine → Fun 𝓤) where
   forward-walks : (C : Calls 𝓤 H) (Λ : Loops 𝓤 H) → FmC 𝓤 H (W .laws) C → Triple 𝓤 (C #step·record·step) (ToStep 𝓤 H A at-mem run)
-      → Triple 𝓤 (C #display·forward·record-of) (RecordOf 𝓤 H A at-mem run) → Triple 𝓤 (C #display·forward·refusal-of) (RefusalOf 𝓤 H A at-mem run)
+      → Triple 𝓤 (C #display·forward·record-of) (RecordOf 𝓤 H A at-mem run) → Triple 𝓤 (C #display·forward·failure-of) (FailureOf 𝓤 H A at-mem run)
       → Walks 𝓤 H A forward.ended stayed (WpFn 𝓤 H C Λ code.function) (forward.clauses 𝓤 H A at-mem run)
   forward-walks C Λ fm known-step known-record known-refusal =
       walked 𝓤 H A forward.ended stayed (forward.clauses 𝓤 H A at-mem run) (WpFn 𝓤 H C Λ code.function)
@@ -250,7 +250,7 @@ module _ {M : Type 1} (𝓤 : URA M) (H : Heap 𝓤) (A : Atoms 𝓤) (W : Given
 
 forward-meets : {M : Type 1} (𝓤 : URA M) (H : Heap 𝓤) (A : Atoms 𝓤) → Given 𝓤 H A → (at-mem : Memory → SProp 𝓤) (run : Routine → Fun 𝓤) (𝓣 : Tables 𝓤 H)
     → Triple 𝓤 (𝓣 .C #step·record·step) (ToStep 𝓤 H A at-mem run) → Triple 𝓤 (𝓣 .C #display·forward·record-of) (RecordOf 𝓤 H A at-mem run)
-    → Triple 𝓤 (𝓣 .C #display·forward·refusal-of) (RefusalOf 𝓤 H A at-mem run) → Meets 𝓤 H A forward.signature (WpFn 𝓤 H (𝓣 .C) (𝓣 .Λ) code.function) (forward.spec 𝓤 H A at-mem run)
+    → Triple 𝓤 (𝓣 .C #display·forward·failure-of) (FailureOf 𝓤 H A at-mem run) → Meets 𝓤 H A forward.signature (WpFn 𝓤 H (𝓣 .C) (𝓣 .Λ) code.function) (forward.spec 𝓤 H A at-mem run)
 forward-meets 𝓤 H A W at-mem run 𝓣 known-step known-record known-refusal =
     walk-meets 𝓤 H A forward.ended stayed W (goes 𝓤 H A W at-mem run) (forward.clauses 𝓤 H A at-mem run) (WpFn 𝓤 H (𝓣 .C) (𝓣 .Λ) code.function) (WpFn-mono 𝓤 H (W .laws) 𝓣 code.function)
     (forward-walks 𝓤 H A W at-mem run (𝓣 .C) (𝓣 .Λ) (fmOf 𝓤 H (W .laws) 𝓣) known-step known-record known-refusal)
@@ -264,5 +264,5 @@ step-forward-spec 𝓤 H 𝓜 𝓖 𝓡 =
     (cited 𝓤 H (ToStep 𝓤 H (𝓖 .A) (𝓜 .mem) (𝓡 .run)) 𝓜 𝓡 code.env #step·record·step step-def.routine code.calls-step·record·step (step-thm.met 𝓤 H 𝓜 𝓖 𝓡))
     (cited 𝓤 H (RecordOf 𝓤 H (𝓖 .A) (𝓜 .mem) (𝓡 .run)) 𝓜 𝓡 code.env #display·forward·record-of record-of-def.routine code.calls-display·forward·record-of
     (record-of-thm.met 𝓤 H 𝓜 𝓖 𝓡))
-    (cited 𝓤 H (RefusalOf 𝓤 H (𝓖 .A) (𝓜 .mem) (𝓡 .run)) 𝓜 𝓡 code.env #display·forward·refusal-of refusal-of-def.routine code.calls-display·forward·refusal-of
-    (refusal-of-thm.met 𝓤 H 𝓜 𝓖 𝓡)))
+    (cited 𝓤 H (FailureOf 𝓤 H (𝓖 .A) (𝓜 .mem) (𝓡 .run)) 𝓜 𝓡 code.env #display·forward·failure-of failure-of-def.routine code.calls-display·forward·failure-of
+    (failure-of-thm.met 𝓤 H 𝓜 𝓖 𝓡)))

@@ -5,7 +5,7 @@ use mathlib.Core.Path.{_≡_, ap, ap₂, _∙_}
 use mathlib.Core.List.{List, [], _++_}
 use lib.ListN.{length, take, drop}
 use borrow.Author.Needs.{needs}
-use Rattle.hgn.specs.Questions.{Refusal, passed}
+use Rattle.hgn.specs.Questions.{Failure, passed}
 use Rattle.hgn.specs.Replay.{refusal}
 use Rattle.hgn.specs.Trace.{stepCount, checkTrace}
 use Rattle.hgn.proofs.Sheets.Trace.{trace-sizes}
@@ -47,12 +47,18 @@ pub replay-spec : {M : Type 1} → statement M
 replay-spec =
     tie.close
     (tie.spec
+    -- check-trace-requires
     (λ c κs. search needs)
+    -- of-requires
     (λ c κs. search needs)
+    -- refused-requires
+    (λ c κs. search needs)
+    -- returns
     (λ c.
-    let s = c .before .before .before .before .before .before .before .before in
-    sheet-refused (shop s) (order s) (trace s) (room s) (c .before .before .before .check-trace .result)
-    (c .before .before .before .check-trace .ensures) (c .before .if1 .taken) (c .refused .result) (c .refused .ensures))
+    let s = c .before .before .before .before .before .before .before .before .before in
+    sheet-refused (shop s) (order s) (trace s) (room s) (c .before .before .before .before .check-trace .result)
+    (c .before .before .before .before .check-trace .ensures) (c .before .before .if1 .taken) (c .refused .result)
+    (c .refused .ensures ∙ ap (λ (f : Failure). refusal [] f .answer) (c .before .of .ensures)))
     (λ c κs. search needs)
     (λ c. search needs)
     (λ c κs. search needs)
@@ -63,7 +69,7 @@ replay-spec =
     (sheet-passes (shop s) (order s) (trace s) (room s) (c .before .before .before .before .before .before .check-trace .result)
     (c .before .before .before .before .before .before .check-trace .ensures) (c .before .before .before .before .if1 .left))
     (omega (arith, c .before .before .if2 .taken, c .before .before .before .word .ensures)) (c .refused2 .result)
-    (c .refused2 .ensures ∙ ap (λ (q : Refusal). refusal [] q .answer) (c .before .by .ensures)))
+    (c .refused2 .ensures ∙ ap (λ (f : Failure). refusal [] f .answer) (c .before .by .ensures)))
     (λ c κs. passes c)
     (λ c. run-stopped _ _ _ _ (passes (c .before .before .before)) (enough (c .before .before .before)) (c .before .before .run-checked .result)
     (c .before .before .run-checked .ensures) (c .if3 .taken))

@@ -3,7 +3,8 @@ use mathlib.Core.Path.{ap, _∙_}
 use mathlib.Core.List.{[]}
 use borrow.Author.Needs.{needs}
 use borrow.Author.Tests.{eq-eqb, ne-eqb}
-use Rattle.hgn.specs.Questions.{Refusal, placed}
+use Rattle.hgn.specs.Questions.{Refusal, Failure, placed, failedAt}
+use Rattle.hgn.specs.State.{noAtom}
 use Rattle.hgn.specs.Replay.{refusal}
 use Rattle.replay.proofs.run.ended.Statement.{statement}
 use Rattle.replay.proofs.run.ended.Tie as tie
@@ -20,7 +21,7 @@ ended-spec =
     (λ c.
     let s = c .before .before .before .before in
     rw (eq-eqb _ 0 (c .before .before .before .if1 .taken))
-    (ap (λ (q : Refusal). record { refusal = q; state = s .args .atoms .now; count = s .args .totals .count; cost = s .args .totals .cost })
+    (ap (λ (q : Refusal). record { refusal = q; state = s .args .atoms .now; count = s .args .totals .count; cost = s .args .totals .cost; atom = noAtom })
     (c .at .ensures ∙ ap (placed (s .args .steps)) (c .before .none .ensures))))
     -- by-requires
     (λ c κs. search needs)
@@ -33,4 +34,4 @@ ended-spec =
     let s = c .before .before .before .before in
     rw (ne-eqb _ 0 (c .before .before .before .if1 .left))
     (c .refused .ensures
-    ∙ ap (λ (q : Refusal). refusal [] q .answer) (c .before .at2 .ensures ∙ ap (placed (s .args .steps)) (c .before .before .by .ensures)))))
+    ∙ ap (λ (f : Failure). refusal [] f .answer) (c .before .at2 .ensures ∙ ap (failedAt (s .args .steps)) (c .before .before .by .ensures)))))

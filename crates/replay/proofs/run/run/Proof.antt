@@ -133,7 +133,7 @@ run-spec =
     let q = subst (λ (d : Decision). Took mostWaiting (shop v) (order v) (i v) (record { move = move v; place = place v }) (s v) (ws v) d (s′ v) (ws′ v))
     (c .before .before .before .decision .given .1) (comes v) in
     c .refused .ensures
-    ∙ ap (λ (r : Questions.Refusal). refusal [] r .answer) (c .before .at .ensures)
+    ∙ ap (λ (f : Questions.Failure). refusal [] f .answer) (c .before .at .ensures)
     ∙ run-stops (shop v) (trace v) (start v .pre .1 .0) (P₀ v) (i v) _ _ _ (here v .loop .inv .0) (more v) (move v) (place v) (move-is v) (place-is v) _ (q .0))
     -- enum-known-decision-2
     (λ c. search needs)

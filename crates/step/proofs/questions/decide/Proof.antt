@@ -31,7 +31,7 @@ decide-spec =
     decide-unknown (start r .pre .0) _ (start r .args .load) _ _ _ P l (r .before .before .before .if1 .taken)
     (r .before .before .word .ensures) (r .before .word2 .ensures) (r .read .result) (r .read .ensures)
     (c .before .enum-told .given .1) _ (c .by .ensures))
-    -- move-refusal-requires
+    -- move-failure-requires
     (λ c κs.
     let r = c .before .before .before .before .before in (
       start r .pre .0,
@@ -42,16 +42,18 @@ decide-spec =
     ))
     -- returns-2: it may be taken
     (λ c P l.
-    let r = c .before .before .before .before .before .before .before .before in
+    let r = c .before .before .before .before .before .before .before .before .before in
     decide-takes (start r .pre .0) _ (start r .args .load) _ _ _ P l (r .before .before .before .if1 .taken)
     (r .before .before .word .ensures) (r .before .word2 .ensures) (r .read .result) (r .read .ensures)
-    (c .before .before .before .before .before .before .reading .given .1) (c .before .before .before .before .if2 .taken) (c .before .before .move-refusal .ensures) (start r .pre .2) (c .if3 .taken))
+    (c .before .before .before .before .before .before .before .reading .given .1)
+    (c .before .before .before .before .before .if2 .taken) (c .before .before .before .move-failure .ensures) (start r .pre .2) (c .if3 .taken))
     -- returns-3: a question of the move's own is answered no
     (λ c P l.
-    let r = c .before .before .before .before .before .before .before .before in
+    let r = c .before .before .before .before .before .before .before .before .before in
     decide-refuses (start r .pre .0) _ (start r .args .load) _ _ _ P l (r .before .before .before .if1 .taken)
     (r .before .before .word .ensures) (r .before .word2 .ensures) (r .read .result) (r .read .ensures)
-    (c .before .before .before .before .before .before .reading .given .1) (c .before .before .before .before .if2 .taken) (c .before .before .move-refusal .ensures) (c .if3 .left))
+    (c .before .before .before .before .before .before .before .reading .given .1)
+    (c .before .before .before .before .before .if2 .taken) (c .before .before .before .move-failure .ensures) (c .if3 .left))
     -- by-requires-2
     (λ c κs. search needs)
     -- returns-4: 28

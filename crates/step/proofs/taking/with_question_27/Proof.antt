@@ -10,7 +10,7 @@ with-question-27-spec =
     tie.close
     (tie.spec
     -- any-free-requires
-    (λ c κs. c .before .before .pre .2 .within)
+    (λ c κs. c .before .before .before .pre .2 .within)
     -- returns
     (λ c shop order valid. rw (eq-eqb _ _ (c .before .before .if1 .taken), Laws.told (c .before .any-free .ensures shop order (valid .counted)) (c .if2 .taken)))
     -- by-requires

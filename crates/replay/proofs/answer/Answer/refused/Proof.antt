@@ -3,7 +3,7 @@ use mathlib.Core.Path.{ap}
 use borrow.Author.Needs.{needs}
 use Rattle.hgn.specs.State.{State}
 use Rattle.hgn.specs.Replay as Replay
-use Rattle.sheet_rows.specs.Refusals.{refusalOf}
+use Rattle.step.specs.Failures.{failureOf}
 use Rattle.replay.proofs.answer.Answer.refused.Statement.{statement}
 use Rattle.replay.proofs.answer.Answer.refused.Tie as tie
 
@@ -14,5 +14,5 @@ refused-spec =
     (tie.spec
     (λ c κs. search needs)
     (λ c.
-    ap {B = Replay.Answer} (λ (s : State). record { refusal = refusalOf (c .before .args .refusal); state = s; count = 0; cost = 0 })
+    ap {B = Replay.Answer} (λ (s : State). record { refusal = failureOf (c .before .before .args .failure) .refusal; state = s; count = 0; cost = 0; atom = c .before .before .args .failure .atom })
     (c .empty .ensures)))

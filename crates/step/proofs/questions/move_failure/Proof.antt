@@ -2,16 +2,16 @@
 use borrow.Author.Needs.{needs}
 use Rattle.step.proofs.Actions.{known-action, known-method}
 use Rattle.step.proofs.Decided.{of-release, of-action, of-method}
-use Rattle.step.proofs.questions.move_refusal.Statement.{statement}
-use Rattle.step.proofs.questions.move_refusal.Tie as tie
+use Rattle.step.proofs.questions.move_failure.Statement.{statement}
+use Rattle.step.proofs.questions.move_failure.Tie as tie
 
-pub move-refusal-spec : {M : Type 1} → statement M
-move-refusal-spec =
+pub move-failure-spec : {M : Type 1} → statement M
+move-failure-spec =
     tie.close
     (tie.spec
     -- enum-told
     (λ c. search needs)
-    -- release-refusal-requires
+    -- release-failure-requires
     (λ c κs. search needs)
     -- enum-known-known
     (λ c. search needs)
@@ -20,17 +20,17 @@ move-refusal-spec =
     let s = c .before .before .before .before .before .before in
     let k = known-action (s .pre .0) (s .pre .1 .0) (c .before .known .given .1) in
     (_, s .pre .0, k .0, k .1))
-    -- action-refusal-requires
+    -- action-failure-requires
     (λ c κs. c .action-part .ensures .lies)
     -- enum-known-known-2
     (λ c. search needs)
-    -- method-refusal-requires
+    -- method-failure-requires
     (λ c κs.
     let s = c .before .before .before .before .before .before in
     (s .pre .0, (known-method (s .pre .0) (s .pre .1 .0) (c .before .known2 .given .1), s .pre .1 .1)))
     -- returns
-    (λ c. of-release _ _ _ _ _ (c .before .enum-told .given .1) (c .release-refusal .ensures _))
+    (λ c. of-release _ _ _ _ _ (c .before .enum-told .given .1) (c .release-failure .ensures _))
     -- returns-2
-    (λ c. of-action _ _ _ _ _ (c .before .action-part .result) (c .before .before .before .known .given .1) (c .before .action-part .ensures) (c .action-refusal .ensures))
+    (λ c. of-action _ _ _ _ _ (c .before .action-part .result) (c .before .before .before .known .given .1) (c .before .action-part .ensures) (c .action-failure .ensures))
     -- returns-3
-    (λ c. of-method _ _ _ _ _ (c .before .before .known2 .given .1) (c .method-refusal .ensures)))
+    (λ c. of-method _ _ _ _ _ (c .before .before .known2 .given .1) (c .method-failure .ensures)))
