@@ -35,6 +35,8 @@ c-calls-promised = record {
         demand-1 = promised .demand-1 .of-replay shop sheet trace room (replayedIn plan answer atoms) is;
         demand-2 = promised .demand-2 shop sheet trace room (replayedIn plan answer atoms) is;
         is-call = λ inputs. (record { room = room; result = replayedIn plan answer atoms; inputs = inputs; called = is }, refl, refl);
+        unmet-named = promised .unmet-is-named shop sheet trace room (replayedIn plan answer atoms) is;
+        unmet-first = promised .unmet-is-first shop sheet trace room (replayedIn plan answer atoms) is;
       };
   hgn-search = λ shop sheet depth room left answer l.
       let is = searched-back l in

@@ -11,7 +11,7 @@ use Rattle.search.specs.Founds.{searchedOf}
 use Rattle.capi.specs.Words.{refusalWords, answerWords, stateBytes, ReplayLeft, SearchLeft}
 
 pub replay-left : {c : Replayed} (r : Answer) (exit : List ℕ) {atoms : List ℕ} → replayedOf r exit ≡ c → atoms ≡ stateBytes (r .state .atoms)
-    → ReplayLeft c exit (r .refusal .number ∷ r .refusal .place ∷ r .count ∷ r .cost ∷ []) atoms
+    → ReplayLeft c exit (r .refusal .number ∷ r .refusal .place ∷ r .count ∷ r .cost ∷ r .atom ∷ []) atoms
 replay-left r exit is bytes = record {
   leaves = ap (λ (e : Replayed). e .room) is;
   answers = ap (λ (e : Replayed). answerWords (e .answer)) is;

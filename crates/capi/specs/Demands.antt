@@ -1,4 +1,4 @@
--- The demands of document 00, read of the five calls of C: what hgn's `specs/Demands.antt` says of answers and rooms, said of the words and
+-- The demands of document 00 and Req 01 of document 02, read of the five calls of C: what hgn's `specs/Demands.antt` says of answers and rooms, said of the words and
 -- bytes that these calls leave. Each hypothesis is the contract of the call that its field names. "Lent memory" of demand 1 is the room
 -- for the plan and the room for the trace: `answer`, and of the replay `atoms`, are the answer itself, written whole by every call.
 -- A value of `Promised` stands in `proofs/CallDemands.antt`.
@@ -14,7 +14,7 @@ use Rattle.hgn.specs.Trace.{checkTrace}
 use Rattle.hgn.specs.Replay.{Replayed, replay}
 use Rattle.hgn.specs.Search.{Searched, search}
 use Rattle.hgn.specs.Demands.{ShopCheckAnswers, OrderCheckAnswers, TraceCheckAnswers, ReplayAnswers, SearchAnswers}
-use Rattle.hgn.specs.Demands.{InputsPass, IsDefinition1, ReplayCall, IsFirstOfShortest, SearchAndReplay}
+use Rattle.hgn.specs.Demands.{InputsPass, IsDefinition1, ReplayCall, NamesUnmet, TellsFirstUnmet, IsFirstOfShortest, SearchAndReplay}
 use Rattle.hgn.specs.Demands as Demands
 use Rattle.capi.specs.Words.{refusalWords, ReplayLeft, SearchLeft}
 
@@ -24,7 +24,7 @@ refusalIn answer = record { number = getD answer 0 0; place = getD answer 1 0 }
 
 abbrev pub replayedIn : List ℕ → List ℕ → List ℕ → Replayed
 replayedIn plan answer atoms = record {
-  answer = record { refusal = refusalIn answer; state = map (λ byte. eqb byte 1) atoms; count = getD answer 2 0; cost = getD answer 3 0 };
+  answer = record { refusal = refusalIn answer; state = map (λ byte. eqb byte 1) atoms; count = getD answer 2 0; cost = getD answer 3 0; atom = getD answer 4 0 };
   room = plan;
 }
 
@@ -39,6 +39,8 @@ pub record OfReplay (shop sheet trace room plan answer atoms : List ℕ) : Type 
   pub demand-2 : IsDefinition1 shop sheet trace room (replayedIn plan answer atoms)
   pub is-call : InputsPass shop sheet trace room
       → (k : ReplayCall shop sheet trace) × (k .result ≡ replayedIn plan answer atoms) × (k .room ≡ room)
+  pub unmet-named : NamesUnmet shop (replayedIn plan answer atoms)
+  pub unmet-first : TellsFirstUnmet shop sheet trace (replayedIn plan answer atoms)
 
 -- What a caller of the search may rely on.
 pub record OfSearch (shop sheet : List ℕ) (depth : ℕ) (room left answer : List ℕ) : Type 0 where

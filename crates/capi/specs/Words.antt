@@ -1,4 +1,4 @@
--- The answers of the five calls, as the words and bytes that C reads them in. Document 01, "Questions".
+-- The answers of the five calls, as the words and bytes that C reads them in. Document 01, "Questions"; document 02, Req 01.
 use Prim.Native.Nat.{ℕ}
 use mathlib.Core.Path.{_≡_}
 use mathlib.Core.Bool.{Bool, true, false}
@@ -12,9 +12,9 @@ use Rattle.hgn.specs.Search.{Searched}
 abbrev pub refusalWords : Refusal → List ℕ
 refusalWords r = r .number ∷ r .place ∷ []
 
--- "A replay's answer holds number, place, last state, plan count, cost": all but the state, which has its own room.
+-- "A replay's answer holds number, place, last state, plan count, cost" and "gains an atom field": all but the state, which has its own room.
 abbrev pub answerWords : Answer → List ℕ
-answerWords a = refusalWords (a .refusal) ++ (a .count ∷ a .cost ∷ [])
+answerWords a = refusalWords (a .refusal) ++ (a .count ∷ a .cost ∷ a .atom ∷ [])
 
 -- 1 for an atom that is in the state, 0 for one that is not.
 abbrev pub atomByte : Bool → ℕ

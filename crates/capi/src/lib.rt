@@ -53,14 +53,15 @@ pub extern "C" fn hgn_check_trace(shop: &[u16], order: &[u16], trace: &[u16], an
     *answer = [trace_refusal.number as u32, trace_refusal.place as u32];
 }
 
-// The sheets' questions, then 24 to 33. Accepted, the plan stands in the first words of its room.
+// The sheets' questions, then 24 to 33. Accepted, the plan stands in the first words of its room. The header calls it `hgn_replay`, and says
+// when a symbol gets a number.
 #[no_mangle]
-pub extern "C" fn hgn_replay<'a>(
+pub extern "C" fn hgn_replay_2<'a>(
     shop: &'a [u16],
     order: &'a [u16],
     trace: &[u16],
     plan: &mut [u16],
-    answer: &mut [u32; 4],
+    answer: &mut [u32; 5],
     atoms: &mut [u8; Shop::MOST_ATOMS as usize],
 )
     ensures { λ _. ⌜ ReplayLeft (Replay.replay (now (shop .entry)) (now (order .entry)) (now (trace .entry)) (now (plan .entry))) (now (plan .exit)) (now (answer .exit)) (now (atoms .exit)) ⌝ }
@@ -74,6 +75,7 @@ pub extern "C" fn hgn_replay<'a>(
         refusal.place as u32,
         replayed.count as u32,
         replayed.cost,
+        replayed.atom as u32,
     ];
     *atoms = bytes_of(last);
 }

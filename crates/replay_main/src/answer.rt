@@ -60,6 +60,13 @@ pub fn write_answer(shop: &[u8], order: &[u8], trace: &[u8], room: &mut [u8]) ->
     let answer = replay_bytes(shop, order, trace, &mut plan);
     let count = answer.count;
     let refusal = answer.refusal;
-    let end = text::put_heading(room, refusal.number, refusal.place, count, answer.cost);
+    let end = text::put_heading(
+        room,
+        refusal.number,
+        refusal.place,
+        count,
+        answer.cost,
+        answer.atom,
+    );
     put_lines(room, end, front_words(&plan, count as usize))
 }

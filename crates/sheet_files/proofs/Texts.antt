@@ -1,4 +1,4 @@
--- A number behind the first bytes of a text, and the four of a heading. Assumes nothing.
+-- A number behind the first bytes of a text, and the five of a heading. Assumes nothing.
 use Prim.Native.Nat.{ℕ, _+_, _<_, _≤_}
 use native.Mathlib.Omega.{arith}
 use native.Mathlib.Numerals.{add-one}
@@ -23,10 +23,11 @@ put-is text s at k n end h f few e is =
     ∙ ap {B = List ℕ} (λ l. take at text ++ l) (take-all k s (omega arith) ∙ is ∙ decimal-is n k f few))
     ∙ append-assoc (take at text) (decimal n) (end ∷ [])
 
-pub heading-is : (number place count cost : ℕ) {t1 t2 t3 t4 : List ℕ}
-    → t1 ≡ ended blank number → t2 ≡ t1 ++ ended blank place → t3 ≡ t2 ++ ended blank count → t4 ≡ t3 ++ ended newline cost
-    → t4 ≡ heading number place count cost
+pub heading-is : (number place count cost atom : ℕ) {t1 t2 t3 t4 t5 : List ℕ}
+    → t1 ≡ ended blank number → t2 ≡ t1 ++ ended blank place → t3 ≡ t2 ++ ended blank count → t4 ≡ t3 ++ ended blank cost
+    → t5 ≡ t4 ++ ended newline atom → t5 ≡ heading number place count cost atom
 unfolding heading
-heading-is number place count cost a b c d =
-    d
-    ∙ ap {B = List ℕ} (λ l. l ++ ended newline cost) (c ∙ ap {B = List ℕ} (λ l. l ++ ended blank count) (b ∙ ap {B = List ℕ} (λ l. l ++ ended blank place) a))
+heading-is number place count cost atom a b c d e =
+    e
+    ∙ ap {B = List ℕ} (λ l. l ++ ended newline atom) (d
+    ∙ ap {B = List ℕ} (λ l. l ++ ended blank cost) (c ∙ ap {B = List ℕ} (λ l. l ++ ended blank count) (b ∙ ap {B = List ℕ} (λ l. l ++ ended blank place) a)))

@@ -1,4 +1,5 @@
--- Numbers as decimal text, and the line that begins an answer. Document 01, "One core of sixty centimetres".
+-- Numbers as decimal text, and the line that begins an answer. Document 01, "One core of sixty centimetres"; document 02,
+-- Req 01.
 use Prim.Native.Nat.{ℕ, zero, suc, _+_, _*_, _/_}
 use mathlib.Core.Bool.{cond}
 use mathlib.Core.List.{List, [], _∷_, _++_}
@@ -29,13 +30,14 @@ blank = 32
 abbrev pub newline : ℕ
 newline = 10
 
--- One line with number, place, plan count and cost.
-unfoldable pub heading : ℕ → ℕ → ℕ → ℕ → List ℕ
-heading number place count cost = ended blank number ++ ended blank place ++ ended blank count ++ ended newline cost
+-- "one line with number, place, plan count and cost", and behind them the unmet atom: "The program prints it last on its first line."
+unfoldable pub heading : ℕ → ℕ → ℕ → ℕ → ℕ → List ℕ
+heading number place count cost atom =
+    ended blank number ++ ended blank place ++ ended blank count ++ ended blank cost ++ ended newline atom
 
--- The most bytes of a number with the byte that ends it, and of the heading with its four numbers.
+-- The most bytes of a number with the byte that ends it, and of the heading with its five numbers.
 abbrev pub numberBytes : ℕ
 numberBytes = mostDigits + 1
 
 abbrev pub headingBytes : ℕ
-headingBytes = numberBytes * 4
+headingBytes = numberBytes * 5

@@ -1,4 +1,4 @@
-// Numbers as decimal text, and the line that begins an answer. Document 01, "One core of sixty centimetres".
+// Numbers as decimal text, and the line that begins an answer. Document 01, "One core of sixty centimetres"; document 02, Req 01.
 ghost use mathlib.Core.Path.{_≡_};
 ghost use mathlib.Core.List.{_++_};
 ghost use Prim.Native.Nat.{_+_, _≤_};
@@ -16,8 +16,8 @@ impl Text {
     // A number takes its digits and a byte that ends it.
     pub const NUMBER_BYTES: usize = Text::MOST_DIGITS + 1;
 
-    // The heading has four numbers: number, place, plan count and cost.
-    pub const HEADING_BYTES: usize = Text::NUMBER_BYTES * 4;
+    // The heading has five numbers: number, place, plan count, cost and unmet atom.
+    pub const HEADING_BYTES: usize = Text::NUMBER_BYTES * 5;
 }
 
 // Bytes go into the text.
@@ -45,14 +45,22 @@ pub fn put(text: &mut [u8], at: usize, number: u64, end: u8) -> usize
     at + count + 1
 }
 
-// The four numbers of the first line.
-pub fn put_heading(text: &mut [u8], number: u16, place: u16, count: u16, cost: u32) -> usize
+// The five numbers of the first line.
+pub fn put_heading(
+    text: &mut [u8],
+    number: u16,
+    place: u16,
+    count: u16,
+    cost: u32,
+    atom: u16,
+) -> usize
     requires { ⌜ headingBytes ≤ length (now text) ⌝ }
     ensures few { λ r. ⌜ r ≤ headingBytes ⌝ }
-    ensures text { λ r. ⌜ take r (now (text .exit)) ≡ heading number place count cost ⌝ }
+    ensures text { λ r. ⌜ take r (now (text .exit)) ≡ heading number place count cost atom ⌝ }
 {
     let first = put(text, 0, number as u64, b' ');
     let second = put(text, first, place as u64, b' ');
     let third = put(text, second, count as u64, b' ');
-    put(text, third, cost as u64, b'\n')
+    let fourth = put(text, third, cost as u64, b' ');
+    put(text, fourth, atom as u64, b'\n')
 }
