@@ -1,5 +1,5 @@
-// What a replay answers and what it leaves in the room: `: NUMBER PLACE COUNT COST; state ATOMS; plan WORDS; rest kept`.
-// Refused, the plan is empty and the rest is the whole room.
+// What a replay answers and what it leaves in the room: `: NUMBER PLACE COUNT COST ATOM; state ATOMS; plan WORDS; rest kept`. ATOM is the
+// first atom that is not as wanted, 256 for none. Refused, the plan is empty and the rest is the whole room.
 use crate::line;
 use crate::room;
 use replay::answer::Answer;
@@ -57,6 +57,7 @@ fn write_answer(answer: Answer, room: &[u16]) {
     line::refusal(answer.refusal);
     line::number(answer.count as u64);
     line::number(answer.cost as u64);
+    line::number(answer.atom as u64);
     let state = answer.state;
     let atoms = state.atoms;
     write_state(atoms);

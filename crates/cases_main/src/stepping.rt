@@ -1,5 +1,6 @@
-// What the display shows of steps, one after the other: `: NUMBER WAITING, NUMBER WAITING`, the step's number and how many goals wait
-// after it. A refused step leaves the record as it was: the next one goes on from there, as the same step of the trace.
+// What the display shows of steps, one after the other: `: NUMBER WAITING, NUMBER WAITING ATOM`, the step's number, how many goals wait
+// after it, and the first atom that is not as wanted where one is named. A refused step leaves the record as it was: the next one goes on
+// from there, as the same step of the trace.
 use crate::line;
 use display::forward;
 use network::goals;
@@ -10,6 +11,7 @@ use sheet_check::check::check_order;
 use sheet_check::rows::word;
 use sheet_check::sizes::TraceSizes;
 use sheet_index::index::Tables;
+use state::atoms;
 use step::moves::Step;
 use step::problem::Problem;
 use step::problem::Stepped;
@@ -26,12 +28,21 @@ ghost use Rattle.sheet_index.specs.Tables.{Indexed};
 ghost use Rattle.step.specs.Taking.{Going};
 ghost use Rattle.display.specs.Stepping.{nextNumber};
 
+// An atom that a step names; the number that stands for none is not written.
+fn write_named(atom: u16) {
+    if atom != atoms::NO_ATOM {
+        line::number(atom as u64);
+    }
+}
+
 fn write_shown(shown: Stepped) {
-    let refusal = shown.refusal;
+    let failure = shown.failure;
+    let refusal = failure.refusal;
     let problem = shown.problem;
     let waiting = problem.waiting;
     line::number(refusal.number as u64);
     line::number(goals::count_of(&waiting) as u64);
+    write_named(failure.atom);
 }
 
 // Only a step that is taken is counted.
@@ -71,7 +82,8 @@ fn write_steps<'a>(shop: &'a [u16], order: &'a [u16], trace: &[u16], tables: &[u
         let shown = forward::show_step(problem, shop, order, tables, step);
         write_shown(shown);
         problem = shown.problem;
-        let refusal = shown.refusal;
+        let failure = shown.failure;
+        let refusal = failure.refusal;
         number = next_number(number, refusal.number);
     }
     line::text(b"\n");

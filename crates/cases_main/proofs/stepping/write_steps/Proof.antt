@@ -55,13 +55,13 @@ write-steps-spec =
     (λ c. search needs)
     -- loop-again
     (λ c.
-    let v = c .before .before .before .before in
+    let v = c .before .before .before .before .before in
     let l = v .before .before .before .before .before in
     let a = l .before .before .before .before .before .before .before .args in
     let r = v .show-step .result in
     let n = c .next-number .ensures in (
       subst (λ (k : ℕ). Going (a .shop .now) (a .order .now) k (r .problem .atoms) (r .problem .waiting)) (sym (n .0))
-          (display-goes-on .goes-on _ _ _ _ _ (record { answer = r .refusal; after = r .problem; forward = v .show-step .ensures }) (l .loop .inv .0)),
+          (display-goes-on .goes-on _ _ _ _ _ (record { answer = r .failure; after = r .problem; forward = v .show-step .ensures }) (l .loop .inv .0)),
       omega (arith, n .1, l .loop .inv .1),
       search needs,
       l .loop .inv .3,
