@@ -28,6 +28,7 @@
  * behind it. The old symbol goes, and a macro of this header keeps the plain name for C. So an object that was compiled with
  * an older header, which asks for the old symbol, does not link, rather than misbehave. This holds for every later change. A
  * language that does not read this header declares the symbol with its number. HGN_INTERFACE goes up with each such change.
+ * Interface 3: the array `answer` of hgn_replay grew from four words to five, HGN_REPLAY_ANSWER. A caller lends one word more.
  *
  * To link, on x86-64 Linux: `rt staticlib capi` proves the crate and writes target/staticlib/libcapi.a, which needs only
  * memcpy and memset of the C library:  cc -Iinclude program.c target/staticlib/libcapi.a
@@ -43,15 +44,18 @@ extern "C" {
 #endif
 
 /* The number of this interface, for code that is compiled with more than one: CHANGES.md says what each number brought. */
-#define HGN_INTERFACE 2
+#define HGN_INTERFACE 3
 
 /* The words of each answer. */
 #define HGN_CHECK_ANSWER 2
-#define HGN_REPLAY_ANSWER 4
+#define HGN_REPLAY_ANSWER 5
 #define HGN_SEARCH_ANSWER 2
 
 /* The bytes of a state: as many for every shop, whatever its F. */
 #define HGN_ATOMS 256
+
+/* The fifth word of a replay's answer where it names no atom: atoms are below it. */
+#define HGN_NO_ATOM 256
 
 /* Bytes of stack that were enough in every measurement, for hgn_replay and the checks, and for hgn_search at depth 32. */
 #define HGN_REPLAY_STACK 32768
@@ -87,18 +91,23 @@ void hgn_check_trace(const uint16_t *shop, size_t shop_words,
                      uint32_t answer[HGN_CHECK_ANSWER]);
 
 /*
- * The replay of a trace of L steps. answer is number, place, plan count, cost.
- * Accepted: 0, L, the plan's length and cost. The plan, its action numbers in order, stands in the first words of `plan`,
- * later words are unchanged; atoms[a] is 1 where atom a is in the last state, else 0.
- * Refused: number and place, then 0 and 0; every byte of `atoms` is 0, and `plan` is unchanged. The place is the step for 25
- * to 32 and L for 33.
+ * The replay of a trace of L steps. answer is number, place, plan count, cost, unmet atom.
+ * Accepted: 0, L, the plan's length and cost, HGN_NO_ATOM. The plan, its action numbers in order, stands in the first words of
+ * `plan`, later words are unchanged; atoms[a] is 1 where atom a is in the last state, else 0.
+ * Refused: number and place, then 0 and 0, then the unmet atom; every byte of `atoms` is 0, and `plan` is unchanged. The place
+ * is the step for 25 to 32 and L for 33.
+ * The unmet atom is HGN_NO_ATOM, 256, for none; only 29 and 30 fill it. It is the first atom that is not as wanted before the
+ * step: for 30 of the rows of the action's or the method's needs, for 29 of the rows of the goal. For a goal with alternatives
+ * it is that of the first unmet row of the first alternative, also where another alternative lacks less.
  * A `plan` of fewer than L words is refused with 24, even where the plan is shorter.
+ * hgn_replay, without a number, was the symbol of a call whose answer had four words.
  */
-void hgn_replay(const uint16_t *shop, size_t shop_words,
-                const uint16_t *order, size_t order_words,
-                const uint16_t *trace, size_t trace_words,
-                uint16_t *plan, size_t plan_words,
-                uint32_t answer[HGN_REPLAY_ANSWER], uint8_t atoms[HGN_ATOMS]);
+#define hgn_replay hgn_replay_2
+void hgn_replay_2(const uint16_t *shop, size_t shop_words,
+                  const uint16_t *order, size_t order_words,
+                  const uint16_t *trace, size_t trace_words,
+                  uint16_t *plan, size_t plan_words,
+                  uint32_t answer[HGN_REPLAY_ANSWER], uint8_t atoms[HGN_ATOMS]);
 
 /*
  * The search for a trace of at most `depth` steps that the replay accepts: fewest steps first; among equally long ones the

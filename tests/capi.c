@@ -28,6 +28,10 @@ static const uint16_t plan[] = {1, 2, 3, 4};
 
 /* Where the value of row 2 stands, `6 2`. With 0 it does not rise above the row before it, `5 0`. */
 static const size_t falling_value = 4 + 28 + 2;
+/* One step: action 4, which needs atom 2; a release of the goal, which wants atom 3; action 1, which is not relevant. */
+static const uint16_t unready[] = {1, 4, 0};
+static const uint16_t early_release[] = {1, 0, 0};
+static const uint16_t irrelevant[] = {1, 1, 0};
 /* Without its last step. */
 static const uint16_t shorter[] = {9, 256, 1, 0, 2, 0, 3, 0, 4, 0, 0, 0, 0, 0, 0, 0, 0, 0, 0};
 /* The goal wants an atom that the shop does not have. */
@@ -115,9 +119,9 @@ static void replayed(const uint16_t *steps, size_t count, size_t words) {
 }
 
 static void replays(void) {
-    const uint32_t accepted[HGN_REPLAY_ANSWER] = {0, 10, 4, 26};
-    const uint32_t unfinished[HGN_REPLAY_ANSWER] = {33, 9, 0, 0};
-    const uint32_t no_room[HGN_REPLAY_ANSWER] = {24, 0, 0, 0};
+    const uint32_t accepted[HGN_REPLAY_ANSWER] = {0, 10, 4, 26, HGN_NO_ATOM};
+    const uint32_t unfinished[HGN_REPLAY_ANSWER] = {33, 9, 0, 0, HGN_NO_ATOM};
+    const uint32_t no_room[HGN_REPLAY_ANSWER] = {24, 0, 0, 0, HGN_NO_ATOM};
 
     replayed(SHEET(trace), ROOM);
     same_answer("the replay", accepted, HGN_REPLAY_ANSWER);
@@ -137,6 +141,32 @@ static void replays(void) {
     same_answer("a trace without its last step", unfinished, HGN_REPLAY_ANSWER);
     same_room("a trace without its last step", plan, 0);
     same_atoms("a trace without its last step", 0, 0);
+}
+
+/* The replay of these steps is refused with this answer. */
+static void refused(const char *name, const uint16_t *steps, size_t count, const uint32_t *wanted) {
+    replayed(steps, count, ROOM);
+    same_answer(name, wanted, HGN_REPLAY_ANSWER);
+    same_room(name, plan, 0);
+    same_atoms(name, 0, 0);
+}
+
+/* Which atom a refused replay names. */
+static void unmet(void) {
+    const uint32_t need[HGN_REPLAY_ANSWER] = {30, 0, 0, 0, 2};
+    const uint32_t goal[HGN_REPLAY_ANSWER] = {29, 0, 0, 0, 3};
+    const uint32_t none[HGN_REPLAY_ANSWER] = {31, 0, 0, 0, HGN_NO_ATOM};
+    const uint32_t no_shop[HGN_REPLAY_ANSWER] = {1, 0, 0, 0, HGN_NO_ATOM};
+
+    refused("a need that does not hold", SHEET(unready), need);
+    refused("a goal that does not hold", SHEET(early_release), goal);
+    refused("an action that is not relevant", SHEET(irrelevant), none);
+
+    fresh();
+    hgn_replay(shop, 0, SHEET(order), SHEET(trace), room + KEPT, ROOM, answer + KEPT, atoms + KEPT);
+    same_answer("a replay of an empty shop", no_shop, HGN_REPLAY_ANSWER);
+    same_room("a replay of an empty shop", plan, 0);
+    same_atoms("a replay of an empty shop", 0, 0);
 }
 
 /* The search of this depth with so many words of room. */
@@ -178,6 +208,7 @@ static void searches(void) {
 int main(void) {
     checks();
     replays();
+    unmet();
     searches();
     puts("capi: ok");
     return 0;
