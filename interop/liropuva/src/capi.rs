@@ -32,7 +32,7 @@ unsafe extern "C" {
         answer: *mut [u32; 2],
     );
 
-    fn hgn_replay(
+    fn hgn_replay_2(
         shop: *const u16,
         shop_words: usize,
         order: *const u16,
@@ -41,7 +41,7 @@ unsafe extern "C" {
         trace_words: usize,
         plan: *mut u16,
         plan_words: usize,
-        answer: *mut [u32; 4],
+        answer: *mut [u32; 5],
         atoms: *mut [u8; 256],
     );
 
@@ -104,13 +104,13 @@ pub(crate) fn check_trace(shop: &[u16], order: &[u16], trace: &[u16]) -> Answer 
 }
 
 pub(crate) fn replay(shop: &[u16], order: &[u16], trace: &[u16], plan: &mut [u16]) -> ReplayAnswer {
-    let mut cells = [UNWRITTEN; 4];
+    let mut cells = [UNWRITTEN; 5];
     let mut atoms = [u8::MAX; 256];
     // SAFETY: the sheets' pointers and lengths are those of live slices, which
     // are only read; those of `plan` are of a slice lent to us alone; `cells`
     // and `atoms` are arrays of our own of the sizes the call writes.
     unsafe {
-        hgn_replay(
+        hgn_replay_2(
             shop.as_ptr(),
             shop.len(),
             order.as_ptr(),
@@ -123,12 +123,13 @@ pub(crate) fn replay(shop: &[u16], order: &[u16], trace: &[u16], plan: &mut [u16
             &mut atoms,
         );
     }
-    let [number, place, plan_count, cost] = cells;
+    let [number, place, plan_count, cost, atom] = cells;
     ReplayAnswer {
         number,
         place,
         plan_count,
         cost,
+        atom,
         state: State::from_bytes(&atoms),
     }
 }

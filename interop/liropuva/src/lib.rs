@@ -6,7 +6,9 @@
 //!
 //! Each call asks its questions in a fixed order and stops at the first no.
 //! That question's number, and the row, method or step where it was asked, is
-//! the [`Refusal`]. A refused call writes nothing into lent memory.
+//! the [`Refusal`]. Where a replay is refused because a goal or needs do not
+//! hold (29 and 30), it also names the first atom that is not as wanted. A
+//! refused call writes nothing into lent memory.
 //!
 //! A call keeps no memory of its own between calls and may be made from any
 //! number of threads.
@@ -39,7 +41,16 @@
 //! assert_eq!(accepted.state.iter().collect::<Vec<_>>(), [1, 2, 3]);
 //!
 //! let refusal = liropuva::search(&shop, &order, 9, &mut room).unwrap_err();
-//! assert_eq!(refusal.number, 43);
+//! assert_eq!((refusal.number, refusal.unmet), (43, None));
+//!
+//! // One step, action 4: to scan the pith half needs it clamped at pith.
+//! let refusal = liropuva::replay(&shop, &order, &[1, 4, 0], &mut plan).unwrap_err();
+//! assert_eq!((refusal.number, refusal.place, refusal.unmet), (30, 0, Some(2)));
+//! assert_eq!(
+//!     refusal.to_string(),
+//!     "refused with 30 at step 0, where atom 2 is not as wanted: \
+//!      the answer is no to \"do the needs of the action or method hold?\""
+//! );
 //! # Ok::<(), liropuva::Refusal>(())
 //! ```
 
@@ -60,6 +71,9 @@ pub const PLAN_ROOM: usize = 4096;
 /// The most words that a search can write: a trace of 32 steps.
 pub const SEARCH_ROOM: usize = 65;
 
+/// The atom of a [`ReplayAnswer`] that names none: atoms are below it.
+pub const NO_ATOM: u32 = 256;
+
 /// The answer of a sheet check or a search, as the library gives it.
 #[derive(Clone, Copy, Debug, PartialEq, Eq)]
 pub struct Answer {
@@ -76,13 +90,14 @@ impl Answer {
             number => Err(Refusal {
                 number,
                 place: self.place,
+                unmet: None,
             }),
         }
     }
 }
 
 /// The answer of a replay, as the library gives it. When the trace is refused,
-/// the state is empty and both counts are 0.
+/// the state is empty and both counts are 0; only 29 and 30 name an atom.
 #[derive(Clone, Debug, PartialEq, Eq)]
 pub struct ReplayAnswer {
     /// The question answered no, or 0.
@@ -93,8 +108,20 @@ pub struct ReplayAnswer {
     pub plan_count: u32,
     /// The sum of their costs.
     pub cost: u32,
+    /// The first atom that is not as wanted, as [`Refusal::unmet`] says;
+    /// [`NO_ATOM`] for none.
+    pub atom: u32,
     /// The state after the last step.
     pub state: State,
+}
+
+impl ReplayAnswer {
+    fn unmet(&self) -> Option<u16> {
+        match self.atom {
+            NO_ATOM => None,
+            atom => Some(atom as u16),
+        }
+    }
 }
 
 /// An accepted trace.
@@ -179,6 +206,7 @@ pub fn replay(
         number => Err(Refusal {
             number,
             place: answer.place,
+            unmet: answer.unmet(),
         }),
     }
 }

@@ -3,7 +3,8 @@
 use std::error::Error;
 use std::fmt;
 
-/// The first question that was answered no, and where.
+/// The first question that was answered no, where, and which atom was not as
+/// wanted.
 #[derive(Clone, Copy, Debug, PartialEq, Eq, Hash)]
 pub struct Refusal {
     /// The number of the question.
@@ -11,6 +12,12 @@ pub struct Refusal {
     /// The row, method or step where it was asked, from 0; the number of steps
     /// for 33; 0 for a question about a whole sheet or room.
     pub place: u32,
+    /// The first atom that is not as wanted before the step. For 30 it is that
+    /// of the first unmet row among the needs of the action or method; for 29
+    /// that of the first unmet row of the goal's first alternative, also where
+    /// another alternative lacks less. `None` for every other number, so always
+    /// of a check and of a search.
+    pub unmet: Option<u16>,
 }
 
 /// What the place of a refusal counts.
@@ -132,6 +139,9 @@ impl fmt::Display for Refusal {
             Place::Step => write!(f, " at step {}", self.place)?,
             Place::End => write!(f, " after {} steps", self.place)?,
         }
+        if let Some(atom) = self.unmet {
+            write!(f, ", where atom {atom} is not as wanted")?;
+        }
         write!(f, ": the answer is no to \"{}\"", self.question())
     }
 }
@@ -144,13 +154,30 @@ mod tests {
 
     #[test]
     fn a_refusal_reads_plainly() {
-        let refusal = |number, place| Refusal { number, place }.to_string();
+        let refusal = |number, place, unmet| {
+            let refusal = Refusal {
+                number,
+                place,
+                unmet,
+            };
+            refusal.to_string()
+        };
         assert_eq!(
-            refusal(28, 1),
+            refusal(28, 1, None),
             "refused with 28 at step 1: the answer is no to \"is this goal free?\""
         );
         assert_eq!(
-            refusal(41, 0),
+            refusal(30, 7, Some(2)),
+            "refused with 30 at step 7, where atom 2 is not as wanted: \
+             the answer is no to \"do the needs of the action or method hold?\""
+        );
+        assert_eq!(
+            refusal(29, 0, Some(0)),
+            "refused with 29 at step 0, where atom 0 is not as wanted: \
+             the answer is no to \"does the goal to be released hold?\""
+        );
+        assert_eq!(
+            refusal(41, 0, None),
             "refused with 41: the answer is no to \"is the depth at most 32?\""
         );
     }
