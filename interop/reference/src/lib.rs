@@ -15,6 +15,7 @@ mod network;
 mod run;
 mod search;
 mod sheet;
+mod unmet;
 
 pub use literals::{Atoms, AtomsIter, Literals};
 pub use network::{Action, Method, Network, Node, Nodes, Shop};
@@ -24,8 +25,10 @@ pub use sheet::{
     MAX_ACTIONS, MAX_ATOMS, MAX_GOALS, MAX_METHOD_NODES, MAX_METHODS, MAX_ROWS, MAX_STEPS, Refusal,
     Trace, tag,
 };
+pub use unmet::ReplayRefusal;
 
 use sheet::{OrderSheet, ShopSheet};
+use unmet::SheetRows;
 
 /// Questions 1 to 9.
 pub fn check_shop(shop: &[u16]) -> Result<(), Refusal> {
@@ -53,25 +56,26 @@ pub fn replay(
     order: &[u16],
     trace: &[u16],
     plan: &mut [u16],
-) -> Result<Accepted, Refusal> {
+) -> Result<Accepted, ReplayRefusal> {
     let shop = ShopSheet::check(shop)?;
     let order = OrderSheet::check(shop.atoms, order)?;
     let trace = Trace::check(trace)?;
     if plan.len() < trace.len() {
-        return Err(Refusal::new(24, 0));
+        return Err(Refusal::new(24, 0).into());
     }
+    let rows = SheetRows::of(&shop, &order);
     let shop = Shop::build(&shop);
     let order = Network::build(&order);
-    match run(Rules::CALLS, &shop, &order, order.start, trace) {
-        Ok(accepted) => {
-            for (word, action) in plan.iter_mut().zip(trace.plan()) {
-                *word = action;
-            }
-            Ok(accepted)
-        }
-        Err(Unaccepted::Refused(refusal)) => Err(refusal),
-        Err(Unaccepted::TooManyAtStart) => unreachable!("question 12 keeps an order to 64 goals"),
+    let run = Run::start(Rules::CALLS, &shop, &order, order.start);
+    let mut run = run.expect("question 12 keeps an order to 64 goals");
+    let accepted = match run.accept(trace) {
+        Ok(accepted) => accepted,
+        Err(refusal) => return Err(rows.named(refusal, &run, trace)),
+    };
+    for (word, action) in plan.iter_mut().zip(trace.plan()) {
+        *word = action;
     }
+    Ok(accepted)
 }
 
 /// Questions 1 to 9, 11 to 18 and 41 to 43. Gives the number of steps found;

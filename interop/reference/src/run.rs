@@ -166,6 +166,14 @@ impl WaitingList {
     }
 }
 
+/// Where the rows of a waiting goal stand: the number of its node among all nodes
+/// of a sheet.
+#[derive(Clone, Copy)]
+pub(crate) enum Origin {
+    Order(usize),
+    Shop(usize),
+}
+
 /// A move of a checked step.
 #[derive(Clone, Copy)]
 enum Move {
@@ -212,6 +220,14 @@ impl<'a> Run<'a> {
         &self.waiting
     }
 
+    /// The alternatives of the goal that waits at this place.
+    pub fn alternatives(&self, place: u16) -> &'a [Literals] {
+        match self.origin(self.waiting.goal(usize::from(place))) {
+            Origin::Order(goal) => self.network.nodes.alternatives(goal),
+            Origin::Shop(node) => self.shop.nodes.alternatives(node),
+        }
+    }
+
     /// The first question from 25 to 32 that this step fails, if any.
     pub fn check(&self, place: u16, word: u16) -> Result<(), u16> {
         self.read_step(usize::from(place), word).map(|_| ())
@@ -232,6 +248,31 @@ impl<'a> Run<'a> {
             Move::Method(method) => self.insert_nodes(place, method),
         }
         Ok(())
+    }
+
+    /// Takes the steps of a trace, which is accepted if none is refused and
+    /// nothing waits behind the last. A refused step changes nothing.
+    pub fn accept(&mut self, trace: Trace<'_>) -> Result<Accepted, Refusal> {
+        for (number, (place, word)) in trace.steps().enumerate() {
+            if let Err(question) = self.step(place, word) {
+                return Err(Refusal::new(question, number));
+            }
+        }
+        if !self.waiting.is_empty() {
+            return Err(Refusal::new(33, trace.len()));
+        }
+        let mut plan_count = 0;
+        let mut cost = 0;
+        for action in trace.plan() {
+            plan_count += 1;
+            cost += u32::from(self.shop.actions[usize::from(action) - 1].cost);
+        }
+        Ok(Accepted {
+            steps: trace.len(),
+            plan_count,
+            cost,
+            state: self.state,
+        })
     }
 
     fn read_move(&self, word: u16) -> Option<Move> {
@@ -281,19 +322,27 @@ impl<'a> Run<'a> {
         }
     }
 
-    pub(crate) fn holds(&self, goal: u16) -> bool {
+    /// Where the rows of a goal of the waiting list stand.
+    #[inline]
+    pub(crate) fn origin(&self, goal: u16) -> Origin {
         let goal = usize::from(goal);
         match goal.checked_sub(self.network.nodes.len()) {
-            None => self.network.nodes.holds(goal, &self.state),
-            Some(node) => self.shop.nodes.holds(node, &self.state),
+            None => Origin::Order(goal),
+            Some(node) => Origin::Shop(node),
+        }
+    }
+
+    pub(crate) fn holds(&self, goal: u16) -> bool {
+        match self.origin(goal) {
+            Origin::Order(goal) => self.network.nodes.holds(goal, &self.state),
+            Origin::Shop(node) => self.shop.nodes.holds(node, &self.state),
         }
     }
 
     pub(crate) fn literals(&self, goal: u16) -> &'a Literals {
-        let goal = usize::from(goal);
-        match goal.checked_sub(self.network.nodes.len()) {
-            None => &self.network.nodes.node(goal).literals,
-            Some(node) => &self.shop.nodes.node(node).literals,
+        match self.origin(goal) {
+            Origin::Order(goal) => &self.network.nodes.node(goal).literals,
+            Origin::Shop(node) => &self.shop.nodes.node(node).literals,
         }
     }
 
@@ -337,28 +386,8 @@ pub fn run(
     state: Atoms,
     trace: Trace<'_>,
 ) -> Result<Accepted, Unaccepted> {
-    let refuse = |number, place| Err(Unaccepted::Refused(Refusal::new(number, place)));
     let Some(mut run) = Run::start(rules, shop, network, state) else {
         return Err(Unaccepted::TooManyAtStart);
     };
-    for (number, (place, word)) in trace.steps().enumerate() {
-        if let Err(question) = run.step(place, word) {
-            return refuse(question, number);
-        }
-    }
-    if !run.waiting.is_empty() {
-        return refuse(33, trace.len());
-    }
-    let mut plan_count = 0;
-    let mut cost = 0;
-    for action in trace.plan() {
-        plan_count += 1;
-        cost += u32::from(shop.actions[usize::from(action) - 1].cost);
-    }
-    Ok(Accepted {
-        steps: trace.len(),
-        plan_count,
-        cost,
-        state: run.state,
-    })
+    run.accept(trace).map_err(Unaccepted::Refused)
 }

@@ -1,6 +1,7 @@
-//! The cases of document 01, marked and unmarked.
+//! The cases of document 01, marked and unmarked, and which atom a replay names.
 
-use reference::{Budget, Refusal, Stopped, check_order, check_shop, check_trace, replay, search};
+use reference::{Budget, Refusal, ReplayRefusal, Stopped};
+use reference::{check_order, check_shop, check_trace, replay, search};
 
 const CORE_ROWS: [(u16, u16); 28] = [
     (1, 3),
@@ -63,8 +64,21 @@ fn refused(number: u16, place: usize) -> Refusal {
     Refusal { number, place }
 }
 
+/// A replay's refusal that names no atom.
+fn unnamed(number: u16, place: usize) -> ReplayRefusal {
+    refused(number, place).into()
+}
+
+/// A replay's refusal that names an atom.
+fn named(number: u16, place: usize, atom: u16) -> ReplayRefusal {
+    ReplayRefusal {
+        unmet: Some(atom),
+        ..unnamed(number, place)
+    }
+}
+
 /// Refused on the long core, with the room left alone.
-fn core_refusal(steps: &[(u16, u16)]) -> Refusal {
+fn core_refusal(steps: &[(u16, u16)]) -> ReplayRefusal {
     let mut plan = [7; 100];
     let refusal = replay(&core_shop(), &core_order(), &trace(steps), &mut plan).unwrap_err();
     assert_eq!(plan, [7; 100]);
@@ -89,16 +103,16 @@ fn the_long_core_is_accepted() {
 fn the_long_core_with_a_step_less_or_more() {
     let mut steps = core_steps();
     steps.push((0, 0));
-    assert_eq!(core_refusal(&steps), refused(25, 10));
+    assert_eq!(core_refusal(&steps), unnamed(25, 10));
     steps.truncate(9);
-    assert_eq!(core_refusal(&steps), refused(33, 9));
+    assert_eq!(core_refusal(&steps), unnamed(33, 9));
 }
 
 #[test]
 fn the_plan_room_must_hold_as_many_words_as_steps() {
     let words = trace(&core_steps());
     let replayed = replay(&core_shop(), &core_order(), &words, &mut [7; 9]);
-    assert_eq!(replayed, Err(refused(24, 0)));
+    assert_eq!(replayed, Err(unnamed(24, 0)));
 }
 
 #[test]
@@ -116,19 +130,19 @@ fn no_goals_and_no_steps() {
 
 #[test]
 fn the_first_step_alone() {
-    assert_eq!(core_refusal(&[(4, 0)]), refused(30, 0));
-    assert_eq!(core_refusal(&[(1, 0)]), refused(31, 0));
-    assert_eq!(core_refusal(&[(5, 0)]), refused(26, 0));
-    assert_eq!(core_refusal(&[(0, 0)]), refused(29, 0));
-    assert_eq!(core_refusal(&[(255, 0)]), refused(26, 0));
-    assert_eq!(core_refusal(&[(257, 0)]), refused(26, 0));
-    assert_eq!(core_refusal(&[(65535, 0)]), refused(26, 0));
+    assert_eq!(core_refusal(&[(4, 0)]), named(30, 0, 2));
+    assert_eq!(core_refusal(&[(1, 0)]), unnamed(31, 0));
+    assert_eq!(core_refusal(&[(5, 0)]), unnamed(26, 0));
+    assert_eq!(core_refusal(&[(0, 0)]), named(29, 0, 3));
+    assert_eq!(core_refusal(&[(255, 0)]), unnamed(26, 0));
+    assert_eq!(core_refusal(&[(257, 0)]), unnamed(26, 0));
+    assert_eq!(core_refusal(&[(65535, 0)]), unnamed(26, 0));
 }
 
 #[test]
 fn places_behind_a_method() {
-    assert_eq!(core_refusal(&[(256, 0), (0, 4)]), refused(28, 1));
-    assert_eq!(core_refusal(&[(256, 0), (0, 5)]), refused(25, 1));
+    assert_eq!(core_refusal(&[(256, 0), (0, 4)]), unnamed(28, 1));
+    assert_eq!(core_refusal(&[(256, 0), (0, 5)]), unnamed(25, 1));
 }
 
 #[test]
@@ -136,7 +150,79 @@ fn relevance_looks_at_all_alternatives_together() {
     let shop = sheet(&[2, 1, 0], &[(1, 0), (5, 0)]);
     let order = sheet(&[2, 1], &[(7, 0), (8, 0), (9, 0), (8, 0), (10, 0), (9, 1)]);
     let replayed = replay(&shop, &order, &trace(&[(1, 0)]), &mut [0]);
-    assert_eq!(replayed, Err(refused(31, 0)));
+    assert_eq!(replayed, Err(unnamed(31, 0)));
+}
+
+/// One step of action 1 or of method 0, which both have these needs and are for
+/// the one goal. From the atoms 1 and 3 of 256.
+fn needs_refusal(needs: &[(u16, u16)], word: u16) -> ReplayRefusal {
+    let action = [&[(1, 0)], needs, &[(5, 7)]].concat();
+    // The method's first node wants what its needs do not say.
+    let nodes = [(7, 0), (8, 0), (9, 200), (7, 0), (8, 0), (9, 7)];
+    let method = [&[(2, 0)], needs, &nodes].concat();
+    let shop = sheet(&[256, 1, 1], &[action, method].concat());
+    let order = sheet(&[256, 1], &[(12, 1), (12, 3), (7, 0), (8, 0), (9, 7)]);
+    replay(&shop, &order, &trace(&[(word, 0)]), &mut [0]).unwrap_err()
+}
+
+#[test]
+fn the_first_unmet_need_is_named() {
+    for word in [1, 256] {
+        let atom = |needs: &[_]| {
+            let refusal = needs_refusal(needs, word);
+            assert_eq!((refusal.number, refusal.place), (30, 0));
+            refusal.unmet.expect("30 names an atom")
+        };
+        assert_eq!(atom(&[(3, 0), (3, 1), (3, 3)]), 0);
+        assert_eq!(atom(&[(3, 1), (3, 2), (3, 3)]), 2);
+        assert_eq!(atom(&[(3, 1), (3, 3), (3, 255)]), 255);
+        assert_eq!(atom(&[(3, 1), (3, 4), (3, 5)]), 4);
+        assert_eq!(atom(&[(4, 0), (4, 1), (3, 2)]), 1);
+        assert_eq!(atom(&[(4, 2), (3, 3), (3, 64)]), 64);
+    }
+}
+
+/// A release of a goal with these alternatives from the atoms 1 and 3 of 256.
+fn goal_refusal(alternatives: &[&[(u16, u16)]]) -> Result<usize, ReplayRefusal> {
+    let mut rows = vec![(12, 1), (12, 3), (7, 0)];
+    for alternative in alternatives {
+        rows.push((8, 0));
+        rows.extend_from_slice(alternative);
+    }
+    let order = sheet(&[256, 1], &rows);
+    let replayed = replay(&[256, 0, 0, 0], &order, &trace(&[(0, 0)]), &mut [0]);
+    replayed.map(|accepted| accepted.steps)
+}
+
+#[test]
+fn the_first_unmet_row_of_the_first_alternative_is_named() {
+    assert_eq!(goal_refusal(&[&[(9, 0)]]), Err(named(29, 0, 0)));
+    assert_eq!(goal_refusal(&[&[(10, 1), (9, 2)]]), Err(named(29, 0, 1)));
+    assert_eq!(goal_refusal(&[&[(9, 1), (9, 255)]]), Err(named(29, 0, 255)));
+    // The second lacks one row, the first two.
+    let second_nearer: [&[_]; 2] = [&[(9, 4), (9, 5)], &[(9, 1), (9, 2), (9, 3)]];
+    assert_eq!(goal_refusal(&second_nearer), Err(named(29, 0, 4)));
+    let third_nearer: [&[_]; 3] = [&[(9, 1), (9, 6), (9, 7)], &[(10, 1)], &[(9, 0)]];
+    assert_eq!(goal_refusal(&third_nearer), Err(named(29, 0, 6)));
+    // The last one holds.
+    assert_eq!(goal_refusal(&[&[(9, 0)], &[(10, 3)], &[(9, 1)]]), Ok(1));
+}
+
+/// A method's nodes stand in the shop sheet; an earlier node has other
+/// alternatives.
+#[test]
+fn the_atom_of_a_node_that_does_not_hold() {
+    let first = [(7, 0), (8, 0), (8, 0), (9, 4)];
+    let second = [(7, 0), (11, 0), (8, 0), (9, 1), (9, 2), (8, 0), (9, 3)];
+    let last = [(7, 0), (8, 0), (9, 0)];
+    let shop = sheet(
+        &[5, 0, 1],
+        &[&[(2, 0)][..], &first, &second, &last].concat(),
+    );
+    let order = sheet(&[5, 1], &[(12, 1), (7, 0), (8, 0), (9, 0)]);
+    let words = trace(&[(256, 0), (0, 0), (0, 0)]);
+    let replayed = replay(&shop, &order, &words, &mut [0; 3]);
+    assert_eq!(replayed, Err(named(29, 2, 2)));
 }
 
 #[test]
@@ -145,9 +231,9 @@ fn sixty_four_may_wait() {
     let order = sheet(&[1, 1], &[(7, 0), (8, 0), (9, 0)]);
     let mut plan = [0; 64];
     let replayed = replay(&shop, &order, &trace(&[(256, 0); 63]), &mut plan);
-    assert_eq!(replayed, Err(refused(33, 63)));
+    assert_eq!(replayed, Err(unnamed(33, 63)));
     let replayed = replay(&shop, &order, &trace(&[(256, 0); 64]), &mut plan);
-    assert_eq!(replayed, Err(refused(32, 63)));
+    assert_eq!(replayed, Err(unnamed(32, 63)));
 }
 
 #[test]
@@ -286,5 +372,5 @@ fn sheets_are_asked_in_order() {
     assert_eq!(check_trace(&core_shop(), &[], &[]), Err(refused(11, 0)));
     assert_eq!(search(&core_shop(), &[], 33, &mut []), Err(refused(11, 0)));
     let replayed = replay(&core_shop(), &core_order(), &[], &mut []);
-    assert_eq!(replayed, Err(refused(21, 0)));
+    assert_eq!(replayed, Err(unnamed(21, 0)));
 }
