@@ -2,10 +2,11 @@
 
 use std::collections::BTreeMap;
 
-use liropuva::{Answer, ReplayAnswer};
+use liropuva::{Answer, NO_ATOM, ReplayAnswer};
 use reference::{Atoms, Budget, Refusal, Stopped};
 
 use crate::random::Random;
+use crate::unmet::Unmet;
 
 /// Words around a lent room that no call may touch.
 const MARGIN: usize = 8;
@@ -68,6 +69,8 @@ impl Counts {
 #[derive(Clone, Debug, Default)]
 pub struct Tally {
     pub replays: Counts,
+    /// The replays that named an atom.
+    pub unmet: Unmet,
     pub searches: Counts,
     pub checks: Counts,
     /// How often a search found a trace of so many steps.
@@ -79,6 +82,7 @@ pub struct Tally {
 impl Tally {
     pub fn add(&mut self, other: &Tally) {
         self.replays.add(&other.replays);
+        self.unmet.add(&other.unmet);
         self.searches.add(&other.searches);
         self.checks.add(&other.checks);
         self.found_steps.add(&other.found_steps);
@@ -98,6 +102,7 @@ impl Tally {
         }
         let [replays, searches, checks] = calls.map(Counts::total);
         println!(" total {replays:>10} {searches:>10} {checks:>10}");
+        self.unmet.print();
         println!(
             "steps of the traces found, and how often: {:?}",
             self.found_steps.0
@@ -143,6 +148,17 @@ pub fn checks(tally: &mut Tally, shop: &[u16], order: &[u16], trace: &[u16]) {
     }
 }
 
+/// The numbers of a replay's answer: number, place, plan count, cost and atom.
+pub fn words(answer: &ReplayAnswer) -> [u32; 5] {
+    [
+        answer.number,
+        answer.place,
+        answer.plan_count,
+        answer.cost,
+        answer.atom,
+    ]
+}
+
 /// What a replay gave: the answer and, when accepted, the plan.
 pub struct Replayed {
     pub answer: ReplayAnswer,
@@ -173,14 +189,22 @@ pub fn replay(
 
     let input = || format!("shop {shop:?}\norder {order:?}\ntrace {trace:?}\nplan room {room}");
     let (expected, state) = match reference {
-        Ok(a) => ([0, a.steps as u32, a.plan_count as u32, a.cost], a.state),
-        Err(r) => ([u32::from(r.number), r.place as u32, 0, 0], Atoms::EMPTY),
+        Ok(a) => {
+            let (steps, plan_count) = (a.steps as u32, a.plan_count as u32);
+            ([0, steps, plan_count, a.cost, NO_ATOM], a.state)
+        }
+        Err(r) => {
+            let atom = r.unmet.map_or(NO_ATOM, u32::from);
+            (
+                [u32::from(r.number), r.place as u32, 0, 0, atom],
+                Atoms::EMPTY,
+            )
+        }
     };
-    let given = [proved.number, proved.place, proved.plan_count, proved.cost];
     assert_eq!(
-        given,
+        words(&proved),
         expected,
-        "replay: number, place, plan count, cost: proved (left), reference (right)\n{}",
+        "replay: number, place, plan count, cost, atom: proved (left), reference (right)\n{}",
         input()
     );
     let proved_state: Atoms = proved.state.iter().collect();
@@ -202,6 +226,9 @@ pub fn replay(
         input()
     );
     tally.replays.count(proved.number, 1);
+    if proved.atom != NO_ATOM {
+        tally.unmet.count(&proved, shop, order, trace);
+    }
     if proved.number == 0 && proved.place == u32::from(reference::MAX_STEPS) {
         tally.full_traces += 1;
     }

@@ -79,13 +79,23 @@ fn some_literals(random: &mut Random, atoms: u16, most: usize) -> Vec<Literal> {
     chosen
 }
 
+/// How many literals at most: mostly few, so that they often hold; sometimes
+/// more, so that several rows are unmet and which one comes first tells.
+fn few_or_many(random: &mut Random) -> usize {
+    random.pick(&[2, 2, 6])
+}
+
 fn action(random: &mut Random, atoms: u16) -> Action {
     let cost = match random.below(4) {
         0 => random.word(),
         1 => random.pick(&[0, 1, u16::MAX]),
         _ => random.below(20) as u16,
     };
-    let needs = if random.chance(50) { 2 } else { 0 };
+    let needs = if random.chance(50) {
+        few_or_many(random)
+    } else {
+        0
+    };
     Action {
         cost,
         needs: literals(random, atoms, needs),
@@ -114,13 +124,20 @@ fn node(random: &mut Random, atoms: u16, number: usize) -> Node {
     Node {
         after: afters(random, number),
         alternatives: (0..alternatives)
-            .map(|_| some_literals(random, atoms, 2))
+            .map(|_| {
+                let most = few_or_many(random);
+                some_literals(random, atoms, most)
+            })
             .collect(),
     }
 }
 
 fn method(random: &mut Random, atoms: u16, nodes: usize) -> Method {
-    let needs = if random.chance(30) { 2 } else { 0 };
+    let needs = if random.chance(30) {
+        few_or_many(random)
+    } else {
+        0
+    };
     let mut list: Vec<Node> = (0..nodes - 1).map(|n| node(random, atoms, n)).collect();
     list.push(Node {
         after: Vec::new(),

@@ -11,4 +11,5 @@ pub mod generate;
 pub mod inputs;
 pub mod random;
 pub mod runner;
+pub mod unmet;
 pub mod walk;

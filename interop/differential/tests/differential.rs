@@ -8,6 +8,7 @@ use differential::compare::{self, Counts, Tally};
 use differential::draft::{Order, Shop, Step, trace_words};
 use differential::generate::{self, Size};
 use differential::random::Random;
+use differential::unmet::Way;
 use differential::walk::{self, Habit};
 use differential::{damage, runner};
 use liropuva::{QUESTIONS, Subject};
@@ -15,6 +16,8 @@ use reference::{MAX_GOALS, MAX_ROWS, MAX_STEPS, METHOD_0, Network, Rules, Run};
 
 /// The question that no input fails: the goal at place 0 is always free.
 const NEVER_TOLD: u32 = 27;
+/// The questions whose refusal names an atom. No other's does.
+const NAMES_ATOM: [u32; 2] = [29, 30];
 /// How often a group answers each number that it must reach.
 const LEAST_EACH: u64 = 100;
 
@@ -437,6 +440,7 @@ fn run(group: Group, cases: u64, case: fn(&mut Random, &mut Tally)) -> Tally {
     assert_asked(&tally.replays, &[Shop, Order, Trace, Replay]);
     assert_asked(&tally.searches, &[Shop, Order, Search]);
     assert_asked(&tally.checks, &[Shop, Order, Trace]);
+    assert_atoms(&tally);
     for question in QUESTIONS {
         if reached_by(question.subject) == group && question.number != NEVER_TOLD {
             let counts = match question.subject {
@@ -462,6 +466,16 @@ fn assert_asked(counts: &Counts, subjects: &[Subject]) {
     }
 }
 
+/// A replay named an atom exactly if its number is one of those that do. So each
+/// other number came as often without one as it came at all.
+fn assert_atoms(tally: &Tally) {
+    for number in tally.replays.numbers() {
+        let all = tally.replays.of(number);
+        let named = if NAMES_ATOM.contains(&number) { all } else { 0 };
+        assert_eq!(tally.unmet.of(number, Way::Named), named, "of {number}");
+    }
+}
+
 fn assert_at_least(what: &str, count: u64, least: u64) {
     assert!(
         runner::single_seed() || count >= least,
@@ -473,6 +487,17 @@ fn assert_at_least(what: &str, count: u64, least: u64) {
 fn traces() {
     let tally = run(Group::Traces, 14_000, traces_case);
     assert_at_least("an accepted trace", tally.replays.of(0), 20_000);
+    for (number, way) in [
+        (29, Way::FirstAtom),
+        (29, Way::LastAtom),
+        (29, Way::OtherNearer),
+        (30, Way::FirstAtom),
+        (30, Way::LastAtom),
+        (30, Way::OfMethod),
+    ] {
+        let count = tally.unmet.of(number, way);
+        assert_at_least(&format!("{number}, {way:?}"), count, LEAST_EACH);
+    }
 }
 
 #[test]

@@ -5,14 +5,14 @@ use differential::cores;
 use differential::draft::{Row, Sheet, Step, trace_words};
 use differential::random::Random;
 
-/// Number, place, plan count and cost of a replay on which both sides agree.
-fn replay(shop: &[u16], order: &[u16], steps: &[Step]) -> [u32; 4] {
+/// Number, place, plan count, cost and atom of a replay on which both sides
+/// agree.
+fn replay(shop: &[u16], order: &[u16], steps: &[Step]) -> [u32; 5] {
     let (mut tally, mut random) = (Tally::default(), Random::new(1));
     let trace = trace_words(steps);
     let replayed = compare::replay(&mut tally, &mut random, shop, order, &trace, steps.len());
     compare::checks(&mut tally, shop, order, &trace);
-    let answer = replayed.answer;
-    [answer.number, answer.place, answer.plan_count, answer.cost]
+    compare::words(&replayed.answer)
 }
 
 fn sheet(sizes: &[u16], rows: &[Row]) -> Vec<u16> {
@@ -20,7 +20,7 @@ fn sheet(sizes: &[u16], rows: &[Row]) -> Vec<u16> {
     Sheet { sizes, rows }.words()
 }
 
-fn core_replay(steps: &[Step]) -> [u32; 4] {
+fn core_replay(steps: &[Step]) -> [u32; 5] {
     let (shop, order) = (cores::shop(1).words(), cores::order(1, false).words());
     replay(&shop, &order, steps)
 }
@@ -44,26 +44,26 @@ fn the_long_core_is_the_documents() {
 #[test]
 fn the_long_core() {
     let mut steps = cores::steps();
-    assert_eq!(core_replay(&steps), [0, 10, 4, 26]);
-    assert_eq!(core_replay(&steps[..9]), [33, 9, 0, 0]);
+    assert_eq!(core_replay(&steps), [0, 10, 4, 26, 256]);
+    assert_eq!(core_replay(&steps[..9]), [33, 9, 0, 0, 256]);
     steps.push((0, 0));
-    assert_eq!(core_replay(&steps), [25, 10, 0, 0]);
+    assert_eq!(core_replay(&steps), [25, 10, 0, 0, 256]);
 }
 
 #[test]
 fn no_goals_and_no_steps() {
     let shop = cores::shop(1).words();
-    assert_eq!(replay(&shop, &[4, 0, 0], &[]), [0, 0, 0, 0]);
+    assert_eq!(replay(&shop, &[4, 0, 0], &[]), [0, 0, 0, 0, 256]);
 }
 
 #[test]
 fn the_first_steps() {
-    assert_eq!(core_replay(&[(0, 4)]), [30, 0, 0, 0]);
-    assert_eq!(core_replay(&[(0, 1)]), [31, 0, 0, 0]);
-    assert_eq!(core_replay(&[(0, 5)]), [26, 0, 0, 0]);
-    assert_eq!(core_replay(&[(0, 0)]), [29, 0, 0, 0]);
-    assert_eq!(core_replay(&[(0, 256), (4, 0)]), [28, 1, 0, 0]);
-    assert_eq!(core_replay(&[(0, 256), (5, 0)]), [25, 1, 0, 0]);
+    assert_eq!(core_replay(&[(0, 4)]), [30, 0, 0, 0, 2]);
+    assert_eq!(core_replay(&[(0, 1)]), [31, 0, 0, 0, 256]);
+    assert_eq!(core_replay(&[(0, 5)]), [26, 0, 0, 0, 256]);
+    assert_eq!(core_replay(&[(0, 0)]), [29, 0, 0, 0, 3]);
+    assert_eq!(core_replay(&[(0, 256), (4, 0)]), [28, 1, 0, 0, 256]);
+    assert_eq!(core_replay(&[(0, 256), (5, 0)]), [25, 1, 0, 0, 256]);
 }
 
 #[test]
@@ -71,19 +71,36 @@ fn relevance_looks_at_all_alternatives_together() {
     let shop = sheet(&[2, 1, 0], &[(1, 0), (5, 0)]);
     let goal = [(7, 0), (8, 0), (9, 0), (8, 0), (10, 0), (9, 1)];
     let order = sheet(&[2, 1], &goal);
-    assert_eq!(replay(&shop, &order, &[(0, 1)]), [31, 0, 0, 0]);
+    assert_eq!(replay(&shop, &order, &[(0, 1)]), [31, 0, 0, 0, 256]);
+}
+
+/// At first the second alternative lacks one row and the first two; from other
+/// states both lack one, and the second holds.
+#[test]
+fn an_atom_of_the_first_alternative_is_named() {
+    let goal = [(9, 0), (9, 1), (8, 0), (9, 2), (10, 3)];
+    let goal = |start: &[Row]| [start, &[(7, 0), (8, 0)], &goal].concat();
+    let released = |rows: &[Row]| replay(&[4, 0, 0, 0], &sheet(&[4, 1], rows), &[(0, 0)]);
+    assert_eq!(released(&goal(&[])), [29, 0, 0, 0, 0]);
+    assert_eq!(released(&goal(&[(12, 0)])), [29, 0, 0, 0, 1]);
+    assert_eq!(released(&goal(&[(12, 2)])), [0, 1, 0, 0, 256]);
+}
+
+#[test]
+fn a_sheet_that_is_refused_names_no_atom() {
+    assert_eq!(replay(&[], &[], &[]), [1, 0, 0, 0, 256]);
 }
 
 #[test]
 fn sixty_four_may_wait() {
     let shop = sheet(&[1, 0, 1], &[(2, 0), (7, 0), (8, 0), (9, 0)]);
     let order = sheet(&[1, 1], &[(7, 0), (8, 0), (9, 0)]);
-    assert_eq!(replay(&shop, &order, &[(0, 256); 63]), [33, 63, 0, 0]);
-    assert_eq!(replay(&shop, &order, &[(0, 256); 64]), [32, 63, 0, 0]);
+    assert_eq!(replay(&shop, &order, &[(0, 256); 63]), [33, 63, 0, 0, 256]);
+    assert_eq!(replay(&shop, &order, &[(0, 256); 64]), [32, 63, 0, 0, 256]);
     // With the atom true at the start, all 64 are released again.
     let order = sheet(&[1, 1], &[(12, 0), (7, 0), (8, 0), (9, 0)]);
     let steps = [vec![(0, 256); 63], vec![(0, 0); 64]].concat();
-    assert_eq!(replay(&shop, &order, &steps), [0, 127, 0, 0]);
+    assert_eq!(replay(&shop, &order, &steps), [0, 127, 0, 0, 256]);
 }
 
 #[test]
