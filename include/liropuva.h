@@ -95,7 +95,7 @@ void hgn_check_trace(const uint16_t *shop, size_t shop_words,
  * Accepted: 0, L, the plan's length and cost, HGN_NO_ATOM. The plan, its action numbers in order, stands in the first words of
  * `plan`, later words are unchanged; atoms[a] is 1 where atom a is in the last state, else 0.
  * Refused: number and place, then 0 and 0, then the unmet atom; every byte of `atoms` is 0, and `plan` is unchanged. The place
- * is the step for 25 to 32 and L for 33.
+ * is what the checks say for 1 to 23, 0 for 24, the step for 25 to 32 and L for 33.
  * The unmet atom is HGN_NO_ATOM, 256, for none; only 29 and 30 fill it. It is the first atom that is not as wanted before the
  * step: for 30 of the rows of the action's or the method's needs, for 29 of the rows of the goal. For a goal with alternatives
  * it is that of the first unmet row of the first alternative, also where another alternative lacks less.
