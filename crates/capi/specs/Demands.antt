@@ -1,7 +1,7 @@
--- The demands of document 00 and Req 01 of document 02, read of the five calls of C: what hgn's `specs/Demands.antt` says of answers and rooms, said of the words and
--- bytes that these calls leave. Each hypothesis is the contract of the call that its field names. "Lent memory" of demand 1 is the room
--- for the plan and the room for the trace: `answer`, and of the replay `atoms`, are the answer itself, written whole by every call.
--- A value of `Promised` stands in `proofs/CallDemands.antt`.
+-- The demands of document 00 and Req 01 of document 02, read of the five calls of C: what hgn's `specs/Demands.antt` says of answers and
+-- rooms, said of the words and bytes that these calls leave. Each hypothesis is the contract of the call that its field names. "Lent memory"
+-- of demand 1 is the room for the plan and the room for the trace: `answer`, and of the replay `atoms`, are the answer itself, written whole
+-- by every call. A value of `Promised` stands in `proofs/CallDemands.antt`.
 use Prim.Native.Nat.{ℕ}
 use mathlib.Core.Path.{_≡_}
 use mathlib.Core.List.{List, map}

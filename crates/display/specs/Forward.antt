@@ -12,8 +12,8 @@ use Rattle.step.specs.declared.problem.Problem.{Problem}
 abbrev pub steppedAt : List ℕ → List ℕ → ℕ → Step → Problem → Stepped
 steppedAt shop order n x b = stepped (rulesOf shop) n (problemIn shop order b) x
 
--- The answer, with its number and its atom, and the record are what the step's definition gives at the record before: the atoms, and the goals that wait, by place;
--- refused, the whole record is as it was. What the words behind those of the last goal hold is free.
+-- The answer, with its number and its atom, and the record are what the step's definition gives at the record before: the atoms, and the
+-- goals that wait, by place; refused, the whole record is as it was. What the words behind those of the last goal hold is free.
 abbrev pub Forward : List ℕ → List ℕ → ℕ → Step → Problem → Failure → Problem → Type 0
 Forward shop order n x before answer after =
     Steps.IsStep shop order (steppedAt shop order n x before) before (record { failure = answer; problem = after })

@@ -42,8 +42,8 @@ unfoldable pub onward : {A : Type 0} → A → (number : ℕ) → (number ≡ 0 
 onward here zero next = next refl
 onward here (suc number) next = here
 
--- What they show: the first number that is not 0, at its step, with its atom; or, after the last step, with nothing waiting what the moves did and the
--- record's state, and else 33.
+-- What they show: the first number that is not 0, at its step, with its atom; or, after the last step, with nothing waiting what the moves
+-- did and the record's state, and else 33.
 unfoldable pub shownBy : (shop sheet : List ℕ) (n : ℕ) (b : Problem) (xs : List Step) → Calls shop sheet n b xs → Outcome
 unfolding Calls
 shownBy shop sheet n b [] cs = ended n (problemIn shop sheet b)

@@ -117,7 +117,7 @@ moved d n P p (use-method m) = record { state = P .state; waiting = decomposed (
 moved d n P p unknown = P
 
 -- A move's own questions, at the goal of place `p`. "For a release, does it hold? 29. For the others: needs hold? 30. Relevant? 31. For a
--- method, at most 64 waiting afterwards? 32." Document 02, Req 01: "only 29 and 30 fill" the atom.
+-- method, at most 64 waiting afterwards? 32." Of the atom document 02, Req 01: "only 29 and 30 fill it."
 unfoldable pub ownQuestions : Rules → ℕ → Problem → ℕ → Move → List Question
 ownQuestions r n P p release =
     29 asks formulaHolds (P .state) (goalAt (P .waiting) p .formula) naming unmetGoal (P .state) (goalAt (P .waiting) p .formula)

@@ -1,6 +1,6 @@
 -- States, what holds in them, what an action makes of them, and relevance: each as a test, which a step asks, and as a proposition, in which
--- Definition 1 is written; and the first atom that is not as wanted, of which `Demands` has the proposition. Document 01, "How a derivation runs"; document 02, Req 01; source document 000,
--- "Domain-Independent Planning" and "Goal Networks and HGN Methods".
+-- Definition 1 is written; and the first atom that is not as wanted, of which `Demands` has the proposition. Document 01, "How a derivation
+-- runs"; document 02, Req 01; source document 000, "Domain-Independent Planning" and "Goal Networks and HGN Methods".
 use Prim.Native.Nat.{ℕ}
 use mathlib.Core.Path.{_≡_}
 use mathlib.Core.Bool.{Bool, true, false, not, cond, _&&_, Bool·beq}

@@ -1,5 +1,6 @@
--- The demands of document 00 and Req 01 of document 02, read of the call `replay`: what hgn's `specs/Demands.antt` says of a replay's answer and room, said of those
--- that the call gives. `Replays` is its contract, for whatever words are lent. A value of `Promised` stands in `proofs/CallDemands.antt`.
+-- The demands of document 00 and Req 01 of document 02, read of the call `replay`: what hgn's `specs/Demands.antt` says of a replay's answer
+-- and room, said of those that the call gives. `Replays` is its contract, for whatever words are lent. A value of `Promised` stands in
+-- `proofs/CallDemands.antt`.
 use Prim.Native.Nat.{ℕ}
 use mathlib.Core.Path.{_≡_}
 use mathlib.Core.List.{List}
