@@ -15,6 +15,7 @@ use Rattle.hgn.specs.Run as Run
 use Rattle.hgn.specs.Shop as Shop
 use Rattle.hgn.specs.Order as Order
 use Rattle.hgn.specs.Trace.{stepsOf, traceWords, traceQuestions, checkTrace}
+use Rattle.hgn.specs.Lent.{unwritten, overwritten, asking}
 use Rattle.hgn.specs.Search as Search
 use Rattle.hgn.specs.Replay.{refusal, acceptance, reported, inputQuestions, checkReplay, replay}
 
@@ -37,5 +38,5 @@ unfolding any all filter takeUntil splitAtEach elem shopFollow orderFollow conte
     Shop.shopEndQuestions Shop.shopQuestions Order.orderRows Order.order Order.sizesInRange Order.orderEndQuestions Order.orderQuestions stepsOf
     traceWords traceQuestions checkTrace refusal acceptance reported inputQuestions checkReplay replay zipWith flatten headD range firstSome
     Search.movesOf Search.stepsAt Search.candidates Search.noSteps Search.firstOf Search.firstShortest Search.isFound Search.stepsFound
-    Search.searched Search.noTrace Search.written Search.searchQuestions Search.search Shop.checkShop Order.checkOrder repeated
+    Search.searched Search.written Search.searchQuestions Search.search unwritten overwritten asking Shop.checkShop Order.checkOrder repeated
 question-cases = record { sheets = refl; follows-in-shop = refl; follows-in-order = refl; steps = refl; searches = refl }

@@ -19,6 +19,7 @@ use Rattle.hgn.specs.Shop.{atomCount, domain, checkShop, shopQuestions}
 use Rattle.hgn.specs.Order.{order, rowCount, checkOrder, orderQuestions}
 use Rattle.hgn.specs.Trace.{sizeWords, stepCount, stepsOf, traceQuestions, checkTrace}
 use Rattle.hgn.specs.Replay.{rulesOf, Answer, Replayed, replay, replayQuestions}
+use Rattle.hgn.specs.Lent.{Lent}
 use Rattle.hgn.specs.Search.{Earlier, mostDepth, Searched, search, searchQuestions}
 use Rattle.hgn.specs.Definition1.{Derivation}
 use Rattle.hgn.specs.Readings.{Reached}
@@ -62,10 +63,13 @@ failureOf a = record { refusal = a .refusal; atom = a .atom }
 abbrev pub ReplayAnswers : List ℕ → List ℕ → List ℕ → List ℕ → Replayed → Type 0
 ReplayAnswers shop sheet trace room c = AnswersFirst (replayQuestions shop sheet trace room) (failureOf (c .answer)) (Refuses room c)
 
--- The search answers number and place too: its questions, 43 among them, name no atom.
+-- What a call with lent room answers that tells number and place: refused, the room is as it was.
+abbrev pub LentAnswers : {Room : Type 0} → List Question → Room → Lent Room → Type 0
+LentAnswers questions room c = AnswersFirst questions (withoutAtom (c .refusal)) (c .room ≡ room)
+
+-- The search's questions, 43 among them, name no atom.
 abbrev pub SearchAnswers : List ℕ → List ℕ → ℕ → List ℕ → Searched → Type 0
-SearchAnswers shop sheet depth room c =
-    AnswersFirst (searchQuestions shop sheet depth room) (withoutAtom (c .refusal)) (c .room ≡ room)
+SearchAnswers shop sheet depth room c = LentAnswers (searchQuestions shop sheet depth room) room c
 
 pub record Demand1 : Type 0 where
   pub of-shop-check : (shop : List ℕ) (a : Refusal) → a ≡ answered (checkShop shop) → ShopCheckAnswers shop a

@@ -17,7 +17,9 @@ pub mod Shop
 pub mod Order
 pub mod Trace
 pub mod Replay
+pub mod Lent
 pub mod Search
+pub mod JoinSheet
 -- "The three sheets" once more, of the meaning: the sheets written out, and their rules as propositions.
 pub mod Written
 -- Source document 000, and the statements that are proved.

@@ -26,6 +26,11 @@ module _ {A : Type 0} where
   takeUntil test [] = []
   takeUntil test (x ∷ xs) = cond (test x) [] (x ∷ takeUntil test xs)
 
+  -- The first element that passes the test, and all after it.
+  unfoldable pub dropUntil : (A → Bool) → List A → List A
+  dropUntil test [] = []
+  dropUntil test (x ∷ xs) = cond (test x) (x ∷ xs) (dropUntil test xs)
+
   -- For each element that passes the test, that element and those after it up to the next that passes.
   unfoldable pub splitAtEach : (A → Bool) → List A → List (List A)
   splitAtEach test [] = []

@@ -1,9 +1,9 @@
 -- A sheet's rows: two parallel arrays, of tags and of values, behind the sizes. Document 01, "The three sheets".
 use Prim.Native.Nat.{ℕ, _+_}
 use mathlib.Core.Bool.{Bool, cond}
-use mathlib.Core.List.{List, [], _∷_, zipWith}
+use mathlib.Core.List.{List, [], _∷_, _++_, map, zipWith}
 use lib.Dec.{eqb}
-use lib.ListN.{take, drop, getD}
+use lib.ListN.{length, take, drop, getD}
 
 pub record Row : Type 0 where
   pub tag : ℕ
@@ -24,6 +24,10 @@ word sheet i = getD sheet i 0
 unfoldable pub rowsOf : ℕ → ℕ → List ℕ → List Row
 unfolding zipWith
 rowsOf sizeWords n sheet = zipWith row (take n (drop sizeWords sheet)) (take n (drop (sizeWords + n) sheet))
+
+-- Rows as words: N, then N tags, then N values.
+unfoldable pub rowWords : List Row → List ℕ
+rowWords rows = length rows ∷ map (λ r. r .tag) rows ++ map (λ r. r .value) rows
 
 -- The row has this tag.
 abbrev pub has : ℕ → Row → Bool

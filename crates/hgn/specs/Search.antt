@@ -7,10 +7,10 @@ use mathlib.Core.Bool.{Bool, true, false}
 use mathlib.Core.List.{List, [], _∷_, _++_, map, flatten}
 use mathlib.Core.Option.{Option, none, some, Option·map}
 use lib.Dec.{leb}
-use lib.ListN.{length, drop}
+use lib.ListN.{length}
 use Rattle.hgn.specs.Lists.{range, firstSome}
-use Rattle.hgn.specs.Questions.{Refusal, noRefusal, placed, Question, _asks_, passed, firstNo}
-use Rattle.hgn.specs.Questions as Questions
+use Rattle.hgn.specs.Questions.{noRefusal, placed, Question, _asks_}
+use Rattle.hgn.specs.Lent.{Lent, overwritten, asking}
 use Rattle.hgn.specs.Meaning.{Domain}
 use Rattle.hgn.specs.Network.{Waiting}
 use Rattle.hgn.specs.Run.{Step, firstMethod, Problem, problemOf, Rules, refused, taken, stepped}
@@ -71,19 +71,13 @@ stepsFound (some xs) = xs
 unfoldable pub searched : List ℕ → List ℕ → ℕ → Option (List Step)
 searched shop sheet depth = firstShortest depth (rulesOf shop) (problemOf (order sheet))
 
--- The answer, and the room at exit.
-pub record Searched : Type 0 where
-  pub refusal : Refusal  -- found, number 0 and place L
-  pub room : List ℕ
-
--- "refused, it writes nothing and answers the number and its place".
-unfoldable pub noTrace : List ℕ → Refusal → Searched
-noTrace room q = record { refusal = q; room = room }
+-- The answer, number 0 and place L where a trace is found, and the room at exit.
+abbrev pub Searched : Type 0
+Searched = Lent (List ℕ)
 
 -- "A search writes the trace into the first 1 + 2L words and answers 0 and L, the rest unchanged".
 unfoldable pub written : List ℕ → List Step → Searched
-written room xs =
-    record { refusal = placed (length xs) noRefusal; room = traceWords xs ++ drop (length (traceWords xs)) room }
+written room xs = record { refusal = placed (length xs) noRefusal; room = overwritten (traceWords xs) room }
 
 -- The deepest search.
 abbrev pub mostDepth : ℕ
@@ -99,7 +93,5 @@ searchQuestions shop sheet depth room =
     ∷ [])
 
 unfoldable pub search : List ℕ → List ℕ → ℕ → List ℕ → Searched
-search shop sheet depth room = elim (firstNo (searchQuestions shop sheet depth room)) [
-  | Questions.refused f ↦ noTrace room (f .refusal)
-  | passed ↦ written room (stepsFound (searched shop sheet depth))
-]
+search shop sheet depth room =
+    asking (searchQuestions shop sheet depth room) room (written room (stepsFound (searched shop sheet depth)))

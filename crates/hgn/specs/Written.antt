@@ -8,7 +8,7 @@ use mathlib.Core.Logic.{_↔_}
 use mathlib.Core.List.{List, [], _∷_, _++_, map, flatMap, List·Memᴰ}
 use lib.ListN.{length}
 use Rattle.hgn.specs.Lists.{splitAtEach, At}
-use Rattle.hgn.specs.Rows.{Row, row, has}
+use Rattle.hgn.specs.Rows.{Row, row, has, rowWords}
 use Rattle.hgn.specs.Meaning.{Literal, Node, Action, Method, Domain, Order, beginsOperator}
 use Rattle.hgn.specs.Run.{Step}
 use Rattle.hgn.specs.Questions.{passed}
@@ -45,11 +45,7 @@ unfoldable pub orderRows : Order → List Row
 unfolding flatMap
 orderRows o = map (row 12) (o .start) ++ flatMap nodeRows (o .goals)
 
--- Words: "sizes first, then two parallel arrays". (`traceWords` of `Trace` is the trace's.)
-
--- N, then N tags, then N values.
-unfoldable pub rowWords : List Row → List ℕ
-rowWords rows = length rows ∷ map (λ r. r .tag) rows ++ map (λ r. r .value) rows
+-- Words: "sizes first, then two parallel arrays" (`rowWords` of `Rows`; `traceWords` of `Trace` is the trace's).
 
 unfoldable pub shopWords : ℕ → Domain → List ℕ
 shopWords F d = F ∷ length (d .actions) ∷ length (d .methods) ∷ rowWords (domainRows d)

@@ -11,7 +11,8 @@ use Rattle.hgn.specs.Questions as Questions
 use Rattle.hgn.specs.Questions.{noRefusal, _asks_, placed, Verdict, passed, refused, firstNo, answered}
 use Rattle.hgn.specs.Run.{Step}
 use Rattle.hgn.specs.Order.{checkOrder}
-use Rattle.hgn.specs.Search.{Searched, isFound, stepsFound, searched, noTrace, written, mostDepth, searchQuestions, search}
+use Rattle.hgn.specs.Lent.{unwritten, overwritten}
+use Rattle.hgn.specs.Search.{Searched, isFound, stepsFound, searched, written, mostDepth, searchQuestions, search}
 use Rattle.hgn.proofs.Questions.FirstNo.{answered-passed}
 use Rattle.hgn.proofs.Questions.Numbers.{of-order, not-zero}
 use Rattle.hgn.proofs.Search.Search.{search-refused, search-passed, sheets-refused, depth-refused, room-refused, inputs-searched}
@@ -31,7 +32,7 @@ module _ (shop sheet : List ℕ) (depth : ℕ) (room : List ℕ) where
 
   -- It refuses by the first no.
   refuses : (q : Questions.Failure) → firstNo (searchQuestions shop sheet depth room) ≡ refused q → (r : Refusal) → refusalOf r ≡ q .refusal → Gives r room
-  unfolding noTrace
+  unfolding unwritten
   refuses q e r a = ap (λ (x : Questions.Refusal). answer x room) a ∙ sym (search-refused shop sheet depth room q e)
 
   -- A sheet is refused.
@@ -72,7 +73,7 @@ module _ (shop sheet : List ℕ) (depth : ℕ) (room : List ℕ) where
         -- The trace is written.
         pub trace-found : f .steps .found ≡ true → f .length ≤ length (f .steps .moves) → f .length ≤ length (f .steps .places)
             → (r : Refusal) → refusalOf r ≡ placed (f .length) noRefusal → (exit : List ℕ) → exit ≡ traceOf f room → Gives r exit
-        unfolding firstNo isFound stepsFound written
+        unfolding firstNo isFound stepsFound written overwritten
         trace-found b m p r a exit w =
             ap₂ answer (a ∙ ap (λ (n : ℕ). placed n noRefusal) (sym (steps-length f m p))) (w ∙ trace-is f m p room)
             ∙ sym (search-passed shop sheet depth room (asked ∙ rw b) ∙ ap (λ (o : Option (List Step)). written room (stepsFound o)) (sym e) ∙ rw b)

@@ -9,14 +9,14 @@ use lib.ListN.{take, drop}
 use Rattle.hgn.specs.Run.{Step}
 use Rattle.hgn.specs.Trace.{step}
 use Rattle.hgn.specs.Search.{Searched}
-use Rattle.sheet_rows.specs.Refusals.{refusalOf}
+use Rattle.sheet_rows.specs.Refusals.{lentOf}
 use Rattle.sheet_rows.specs.declared.refusal.Refusal.{Refusal}
 use Rattle.search.specs.declared.found.Found.{Found}
 use Rattle.search.specs.declared.shortest.Shortest.{Shortest}
 
 -- The answer and the room at exit.
 abbrev pub searchedOf : Refusal → List ℕ → Searched
-searchedOf r exit = record { refusal = refusalOf r; room = exit }
+searchedOf r exit = lentOf r exit
 
 -- `k` steps, from step `n` on.
 unfoldable pub stepsFrom : ℕ → ℕ → Found → List Step

@@ -9,12 +9,12 @@ use Rattle.hgn.specs.State.{noAtom}
 use Rattle.hgn.specs.Shop.{shopQuestions, checkShop}
 use Rattle.hgn.specs.Order.{orderQuestions, checkOrder}
 use Rattle.hgn.specs.Trace.{traceQuestions, checkTrace}
-use Rattle.hgn.specs.Search.{searchQuestions}
-use Rattle.hgn.specs.Demands.{CheckAnswers, Demand1}
+use Rattle.hgn.specs.Search.{Searched, written, searchQuestions, search}
+use Rattle.hgn.specs.Demands.{CheckAnswers, SearchAnswers, Demand1}
 use Rattle.hgn.proofs.Questions.FirstNo.{Numbers, numbers-append, Tells, answers-first, answered-tells, answered-passed}
 use Rattle.hgn.proofs.Questions.Numbers.{shop-numbers, of-order, of-trace, replay-not-zero, not-zero}
 use Rattle.hgn.proofs.Run.Replay.{replay-tells, replay-refuses}
-use Rattle.hgn.proofs.Search.Search.{search-tells, search-leaves}
+use Rattle.hgn.proofs.Questions.Lent.{lent-answers}
 use native.Mathlib.Omega.{arith}
 
 -- A check that answers the verdict of its questions.
@@ -24,11 +24,15 @@ checks qs h u a e = record {
   passed-place = λ z. ap (λ (b : Refusal). b .place) (e ∙ ap answered (answered-passed qs [] a e h z));
 }
 
-search-numbers : (shop sheet : List ℕ) (depth : ℕ) (room : List ℕ) → Numbers (λ k a. k ≢ 0) (searchQuestions shop sheet depth room)
-unfolding searchQuestions
-search-numbers shop sheet depth room =
-    numbers-append (λ k a. k ≢ 0) (shopQuestions shop ++ orderQuestions shop sheet) _ (of-order (λ k a. k ≢ 0) not-zero shop sheet)
-    (omega arith, (omega arith, (omega arith, tt)))
+search-answers : (shop sheet : List ℕ) (depth : ℕ) (room : List ℕ) (c : Searched) → c ≡ search shop sheet depth room → SearchAnswers shop sheet depth room c
+unfolding searchQuestions search written
+search-answers shop sheet depth room c e =
+    lent-answers (searchQuestions shop sheet depth room) room _
+    (numbers-append (λ k a. k ≢ 0) (shopQuestions shop ++ orderQuestions shop sheet) _ (of-order (λ k a. k ≢ 0) not-zero shop sheet)
+    (omega arith, (omega arith, (omega arith, tt))))
+    (numbers-append (λ k a. a ≡ noAtom) (shopQuestions shop ++ orderQuestions shop sheet) _ (of-order (λ k a. a ≡ noAtom) (λ k l. refl) shop sheet)
+    (refl, (refl, (refl, tt))))
+    refl c e
 
 pub demand-1 : Demand1
 unfolding checkShop checkOrder checkTrace
@@ -40,6 +44,5 @@ demand-1 = record {
       (of-trace (λ k a. a ≡ noAtom) (λ k l. refl) shop sheet trace) a e;
   of-replay = λ shop sheet trace room c e.
       answers-first _ _ _ (replay-not-zero shop sheet trace room) (replay-tells shop sheet trace room c e) (replay-refuses shop sheet trace room c e);
-  of-search = λ shop sheet depth room c e.
-      answers-first _ _ _ (search-numbers shop sheet depth room) (search-tells shop sheet depth room c e) (search-leaves shop sheet depth room c e);
+  of-search = search-answers;
 }

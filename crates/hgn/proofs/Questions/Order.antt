@@ -15,7 +15,8 @@ use Rattle.hgn.specs.Order.{checkOrder, orderQuestions}
 use Rattle.hgn.specs.Shop.{shopQuestions}
 use Rattle.hgn.specs.Trace.{sizeWords, stepCount, mostSteps, traceQuestions, checkTrace}
 use Rattle.hgn.specs.Replay.{Replayed, refusal, inputQuestions, checkReplay, replay}
-use Rattle.hgn.specs.Search.{Searched, noTrace, searchQuestions, search}
+use Rattle.hgn.specs.Search.{Searched, searchQuestions, search}
+use Rattle.hgn.specs.Lent.{unwritten}
 use Rattle.hgn.specs.Readings.{RefusedBy, StepOrder, ReplayOrder, SearchOrder, QuestionsInOrder}
 use Rattle.hgn.proofs.Questions.FirstNo.{append-passed, append-refused}
 use Rattle.hgn.proofs.Run.Steps.{some-free, step-refused}
@@ -73,11 +74,11 @@ module _ (shop sheet trace room : List ℕ) where
 module _ (shop sheet : List ℕ) (depth : ℕ) (room : List ℕ) where
   search-by : (q : Failure) → firstNo (searchQuestions shop sheet depth room) ≡ Questions.refused q
       → search shop sheet depth room .refusal .number ≡ q .refusal .number
-  unfolding noTrace
+  unfolding unwritten
   search-by q e = ap (λ (c : Searched). c .refusal .number) (search-refused shop sheet depth room q e)
 
   search-order : SearchOrder shop sheet depth room
-  unfolding noTrace
+  unfolding unwritten
   search-order = record {
     sheets-first = λ q h.
         ap (λ (c : Searched). c .refusal) (search-refused shop sheet depth room q (sheets-refused shop sheet depth room q h));

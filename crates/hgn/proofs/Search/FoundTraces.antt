@@ -9,6 +9,7 @@ use Rattle.hgn.specs.Run.{Step}
 use Rattle.hgn.specs.Questions.{passed}
 use Rattle.hgn.specs.Order.{checkOrder}
 use Rattle.hgn.specs.Trace.{sizeWords, mostSteps, traceWords}
+use Rattle.hgn.specs.Lent.{overwritten}
 use Rattle.hgn.specs.Search.{written}
 use Rattle.hgn.specs.Demands.{Finds}
 use Rattle.hgn.proofs.Sheets.Passed.{passed-trace}
@@ -21,7 +22,7 @@ module _ (xs : List Step) where
 
   pub finds : (shop sheet room : List ℕ) → checkOrder shop sheet ≡ passed → length xs ≤ mostSteps
       → sizeWords + 2 * length xs ≤ length room → Finds shop sheet room xs (written room xs)
-  unfolding written
+  unfolding written overwritten
   finds shop sheet room e h l = record {
     number = refl;
     place = refl;

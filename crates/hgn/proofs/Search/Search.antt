@@ -10,18 +10,19 @@ use mathlib.Core.Option.{Option, none, some}
 use lib.Dec.{leb}
 use lib.ListN.{length, take}
 use borrow.Author.Tests.{leb-true, le-leb}
-use Rattle.hgn.specs.Questions.{Failure, withoutAtom, _asks_, Verdict, passed, refused, firstNo}
+use Rattle.hgn.specs.Questions.{Failure, _asks_, Verdict, passed, refused, firstNo}
 use Rattle.hgn.specs.Network.{goalsOf, mostWaiting}
-use Rattle.hgn.specs.State.{noAtom}
 use Rattle.hgn.specs.Run.{Step, problemOf}
 use Rattle.hgn.specs.Shop.{domain, shopQuestions}
 use Rattle.hgn.specs.Order.{order, orderQuestions, checkOrder}
 use Rattle.hgn.specs.Trace.{sizeWords, stepCount, stepsOf, checkTrace}
 use Rattle.hgn.specs.Replay.{rulesOf, replay}
-use Rattle.hgn.specs.Search.{mostDepth, isFound, stepsFound, searched, Searched, noTrace, written, searchQuestions, search}
+use Rattle.hgn.specs.Search.{mostDepth, isFound, stepsFound, searched, Searched, written, searchQuestions, search}
+use Rattle.hgn.specs.Lent.{unwritten}
 use Rattle.hgn.specs.Demands.{Solves, FirstOfShortest, SearchPasses, Finds, Demand2OfSearch, SearchAgreesWithReplay}
 use Rattle.hgn.proofs.Logic.Tests.{strict-decided}
-use Rattle.hgn.proofs.Questions.FirstNo.{Numbers, numbers-append, append-passed, append-refused, refused-number, Tells, tells-unnamed, tells-passed}
+use Rattle.hgn.proofs.Questions.FirstNo.{append-passed, append-refused, refused-number}
+use Rattle.hgn.proofs.Questions.Lent.{asking-refused, asking-passed}
 use Rattle.hgn.proofs.Questions.Numbers.{of-order, not-zero}
 use Rattle.hgn.proofs.Sheets.Checked.{order-goals, shop-of-order, shop-actions}
 use Rattle.hgn.proofs.Network.Waiting.{length-enter}
@@ -93,14 +94,14 @@ module _ (shop sheet : List ℕ) where
       none-solves q xs l h = shortest-none depth _ _ q xs l (runs-of e h)
 
     -- The question of this number is answered no, the room unchanged.
-    pub search-refused : (q : Failure) → firstNo (searchQuestions shop sheet depth room) ≡ refused q → search shop sheet depth room ≡ noTrace room (q .refusal)
+    pub search-refused : (q : Failure) → firstNo (searchQuestions shop sheet depth room) ≡ refused q → search shop sheet depth room ≡ unwritten room (q .refusal)
     unfolding search
-    search-refused q e = rw (e, search)
+    search-refused q e = asking-refused _ _ _ q e
 
     pub search-passed : firstNo (searchQuestions shop sheet depth room) ≡ passed
         → search shop sheet depth room ≡ written room (stepsFound (searched shop sheet depth))
     unfolding search
-    search-passed e = rw (e, search)
+    search-passed e = asking-passed _ _ _ e
 
     -- After the sheets have passed, three questions are left.
     pub search-inputs : checkOrder shop sheet ≡ passed
@@ -131,9 +132,9 @@ module _ (shop sheet : List ℕ) where
     -- A search refuses by a number that is neither 0 nor 43, finds no steps, or finds some.
     pub data Report (c : Searched) : Type 0 where
       refuses : (q : Failure) → q .refusal .number ≢ 0 → q .refusal .number ≢ 43 → firstNo (searchQuestions shop sheet depth room) ≡ refused q
-          → c ≡ noTrace room (q .refusal) → Report c
+          → c ≡ unwritten room (q .refusal) → Report c
       finds-none : SearchPasses shop sheet depth room → searched shop sheet depth ≡ none → (q : Failure) → q .refusal .number ≡ 43
-          → firstNo (searchQuestions shop sheet depth room) ≡ refused q → c ≡ noTrace room (q .refusal) → Report c
+          → firstNo (searchQuestions shop sheet depth room) ≡ refused q → c ≡ unwritten room (q .refusal) → Report c
       finds-some : {xs : List Step} → SearchPasses shop sheet depth room → searched shop sheet depth ≡ some xs
           → firstNo (searchQuestions shop sheet depth room) ≡ passed → c ≡ written room xs → Report c
 
@@ -167,12 +168,6 @@ module _ (shop sheet : List ℕ) where
             refuses q (refused-number (λ k a. k ≢ 0) qs (of-order (λ k a. k ≢ 0) not-zero shop sheet) q e)
             (refused-number (λ k a. k ≢ 43) qs (of-order (λ k a. k ≢ 43) (λ k l. omega arith) shop sheet) q e) k (search-refused q k)
 
-    names-no-atom : Numbers (λ k a. a ≡ noAtom) (searchQuestions shop sheet depth room)
-    unfolding searchQuestions
-    names-no-atom =
-        numbers-append (λ k a. a ≡ noAtom) (shopQuestions shop ++ orderQuestions shop sheet) _ (of-order (λ k a. a ≡ noAtom) (λ k l. refl) shop sheet)
-        (refl, (refl, (refl, tt)))
-
     module _ (c : Searched) (called : c ≡ search shop sheet depth room) where
       reports : Report c
       reports = subst Report (sym called) report
@@ -180,29 +175,10 @@ module _ (shop sheet : List ℕ) where
       number-of : {d : Searched} → c ≡ d → c .refusal .number ≡ d .refusal .number
       number-of e = ap (λ (c : Searched). c .refusal .number) e
 
-      -- It tells the first no of its questions, which name no atom, and a refusal leaves the room as it was.
-      pub search-tells : Tells (withoutAtom (c .refusal)) (firstNo (searchQuestions shop sheet depth room))
-      unfolding noTrace written
-      search-tells = go reports
-        where
-          go : Report c → Tells (withoutAtom (c .refusal)) (firstNo (searchQuestions shop sheet depth room))
-          go (refuses q h k f e) = rw (f, e) (tells-unnamed (searchQuestions shop sheet depth room) names-no-atom q f)
-          go (finds-none p s q h f e) = rw (f, e) (tells-unnamed (searchQuestions shop sheet depth room) names-no-atom q f)
-          go (finds-some p s f e) = rw (f, e) (tells-passed refl)
-
-      pub search-leaves : c .refusal .number ≢ 0 → c .room ≡ room
-      unfolding noTrace written
-      search-leaves z = go reports
-        where
-          go : Report c → c .room ≡ room
-          go (refuses q h k f e) = ap (λ (c : Searched). c .room) e
-          go (finds-none p s q h f e) = ap (λ (c : Searched). c .room) e
-          go (finds-some p s f e) = absurd (z (number-of e))
-
       found-solves : c .refusal .number ≡ 0
           → SearchPasses shop sheet depth room
           × ((xs : List Step) × FirstOfShortest shop sheet xs × (length xs ≤ depth) × Finds shop sheet room xs c)
-      unfolding noTrace
+      unfolding unwritten
       found-solves z = go reports
         where
           go : Report c
@@ -226,7 +202,7 @@ module _ (shop sheet : List ℕ) where
 
       none-found : c .refusal .number ≡ 43
           → SearchPasses shop sheet depth room × ((xs : List Step) → length xs ≤ depth → ¬ Solves shop sheet xs)
-      unfolding noTrace written
+      unfolding unwritten written
       none-found z = go reports
         where
           go : Report c → SearchPasses shop sheet depth room × ((xs : List Step) → length xs ≤ depth → ¬ Solves shop sheet xs)
@@ -235,7 +211,7 @@ module _ (shop sheet : List ℕ) where
           go (finds-some p s f e) = let y : _≡_ {A = ℕ} 0 43 = sym (number-of e) ∙ z in absurd (omega arith)
 
       found-none : SearchPasses shop sheet depth room → ((xs : List Step) → length xs ≤ depth → ¬ Solves shop sheet xs) → c .refusal .number ≡ 43
-      unfolding noTrace
+      unfolding unwritten
       found-none p h = go reports
         where
           go : Report c → c .refusal .number ≡ 43

@@ -9,9 +9,9 @@ use lib.ListN.{length, take, drop, length-append, length-map, length-take, lengt
 use lib.Seq.{drop-append-seam, drop-append-add, take-at, drop-at, take-all}
 use borrow.Author.Tests.{eq-eqb}
 use Rattle.hgn.specs.Lists.{any, filter, takeUntil, splitAtEach}
-use Rattle.hgn.specs.Rows.{Row, row, has, valuesTagged, rowsOf}
+use Rattle.hgn.specs.Rows.{Row, row, has, valuesTagged, rowsOf, rowWords}
 use Rattle.hgn.specs.Meaning.{Literal, Formula, Node, Action, Method, Domain, Order, literals, nodeOf, nodesOf, firstValue, actionOf, methodOf, beginsOperator, startsWith, domainOf, orderOf}
-use Rattle.hgn.specs.Written.{conjunctRows, alternativeRows, nodeRows, actionRows, methodRows, domainRows, orderRows, rowWords}
+use Rattle.hgn.specs.Written.{conjunctRows, alternativeRows, nodeRows, actionRows, methodRows, domainRows, orderRows}
 use Rattle.hgn.proofs.Logic.Tests.{or-false, false-or, any-append}
 
 -- Rows none of which has a tag that passes a test.

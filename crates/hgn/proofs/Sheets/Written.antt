@@ -7,7 +7,7 @@ use mathlib.Core.List.{List, [], _∷_, _++_, map, List·Memᴰ}
 use lib.ListN.{length}
 use borrow.Author.Tests.{eqb-true, leb-true, le-leb, eq-eqb}
 use Rattle.hgn.specs.Lists.{any, splitAtEach}
-use Rattle.hgn.specs.Rows.{word}
+use Rattle.hgn.specs.Rows.{word, rowWords}
 use Rattle.hgn.specs.Meaning.{Node, Method, Domain, Order, beginsOperator, domainOf, orderOf, lastOf}
 use Rattle.hgn.specs.Questions.{passed}
 use Rattle.hgn.specs.Shop as Shop
@@ -15,7 +15,7 @@ use Rattle.hgn.specs.Shop.{shopRows, domain, nodeRules, checkShop}
 use Rattle.hgn.specs.Order as Order
 use Rattle.hgn.specs.Order.{order, checkOrder}
 use Rattle.hgn.specs.Trace.{stepsOf}
-use Rattle.hgn.specs.Written.{actionRows, methodRows, domainRows, orderRows, rowWords, shopWords, orderWords, MethodRules, DomainRules, OrderRules}
+use Rattle.hgn.specs.Written.{actionRows, methodRows, domainRows, orderRows, shopWords, orderWords, MethodRules, DomainRules, OrderRules}
 use Rattle.hgn.specs.Written.{ShopIsWritten, OrderIsWritten, TraceIsWritten, SheetsAreWritten}
 use Rattle.hgn.proofs.Sheets.Passed.{shop-passed, passed-shop, order-passed, passed-order, trace-passed, passed-trace}
 use Rattle.hgn.proofs.Sheets.Trace.{words-steps, words-pass-trace, steps-length, trace-is-words}
