@@ -5,5 +5,6 @@ pub mod Front
 pub mod Renaming
 pub mod Cut
 pub mod Counted
+pub mod Rows
 pub mod Sheets
 pub mod Replays

@@ -21,6 +21,7 @@ use Rattle.hgn.specs.Shop.{domain}
 use Rattle.hgn.specs.Order.{order, rowCount, checkOrder}
 use Rattle.hgn.specs.Trace.{stepCount, stepsOf, checkTrace}
 use Rattle.hgn.specs.Replay.{rulesOf, replay}
+use Rattle.hgn.specs.JoinSheet.{joinedWords}
 use Rattle.hgn.specs.Demands.{Accepts, OnJoin, JoinRule, ReplayCall, Accepting, planIn, Whole, Parts, Counted, BothAccept, OneAfterOther, CutAt, JoinOfReplays, Demand3OfReplays}
 use Rattle.hgn.proofs.Logic.Tests.{strict-decided}
 use Rattle.hgn.proofs.Sheets.Passed.{TracePassed, trace-passed, passed-trace}
@@ -32,7 +33,8 @@ use Rattle.hgn.proofs.Run.Limits.{wider-run}
 use Rattle.hgn.proofs.Join.Counted.{counted-start, counted-runs, runs-counted}
 use Rattle.hgn.proofs.Sheets.Trace.{frontOf, backOf, front-passes, front-steps, back-passes, back-steps, steps-length}
 use Rattle.hgn.proofs.Sheets.Starts.{from-state, last-fits}
-use Rattle.hgn.proofs.Join.Sheets.{joined}
+use Rattle.hgn.proofs.Join.Rows.{joined-goals}
+use Rattle.hgn.proofs.Join.Sheets.{joined-means, joined-passes, surely-few}
 use Rattle.hgn.proofs.Run.Replay.{demand-2}
 use Rattle.hgn.proofs.Join.Cut.{demand-3}
 
@@ -69,10 +71,6 @@ module _ {shop sheet trace : List ℕ} (k : ReplayCall shop sheet trace) where
 goals-of : (o p : Order) → o .goals ≡ p .goals → goalsOf o ≡ goalsOf p
 unfolding goalsOf
 goals-of o p e = ap (enter Network.from-order none 0) e
-
-join-length : (a b : Order) → length (join a b .goals) ≡ length (a .goals) + length (b .goals)
-unfolding join
-join-length a b = length-append (a .goals) _ ∙ ap (_+_ (length (a .goals))) (length-map (b .goals) (raised (length (a .goals))))
 
 module _ (shop first second trace : List ℕ)
     (one : checkOrder shop first ≡ passed) (two : checkOrder shop second ≡ passed) (steps : TracePassed trace) where
@@ -201,7 +199,7 @@ module _ (shop first second trace : List ℕ)
       → (joined : List ℕ) → order joined ≡ both → checkTrace shop joined trace ≡ passed → ⊥
   full m joined means h =
       let few = order-goals shop joined (order-of-trace shop joined trace h) in
-      omega (arith, ap (λ (o : Order). length (o .goals)) means, join-length (order first) (order second))
+      omega (arith, ap (λ (o : Order). length (o .goals)) means, joined-goals (order first) (order second))
 
   join-of-replays : JoinOfReplays shop first second trace
   join-of-replays = record {
@@ -282,8 +280,13 @@ demand-3-of-replays = record {
       let steps = trace-passed shop first trace one in
       record {
         whole = λ goals few.
-            let j = joined shop first second h k goals few in
-            record { joined = j .words; means = j .means; call = call-of shop (j .words) trace (j .passes) steps };
+            record {
+              joined = joinedWords first second;
+              means = joined-means shop first second h k;
+              call =
+                  call-of shop (joinedWords first second) trace
+                  (joined-passes shop first second h k goals (surely-few shop first second h k few)) steps;
+            };
         parts = parts-are-there shop first second trace h k steps;
       };
 }

@@ -174,7 +174,7 @@ shops shop = record {
 -- The order sheet.
 
 module _ (shop sheet : List ℕ) (e : checkOrder shop sheet ≡ passed) where
-  same-atoms : Order.atomCount sheet ≡ Shop.atomCount shop
+  pub same-atoms : Order.atomCount sheet ≡ Shop.atomCount shop
   unfolding Order.sizesInRange
   same-atoms = let sizes = simp and-eq-true-iff at (order-passed shop sheet e .sizes) in eqb-true _ _ (sizes .0 .0)
 
@@ -184,6 +184,10 @@ module _ (shop sheet : List ℕ) (e : checkOrder shop sheet ≡ passed) where
       let p = order-passed shop sheet e in
       let r = order-of record { rows = p .rows; ends = p .ends } in
       rw same-atoms at (subst (OrderRead (Order.atomCount sheet) (Order.orderRows sheet)) (sym (ap orderOf (r .1 .rows) ∙ order-read (r .0))) (r .1))
+
+  -- The rows of the sheet are those of its meaning, written out.
+  pub order-rows : Order.orderRows sheet ≡ orderRows (order sheet)
+  order-rows = order-read-from .rows
 
   order-sized : sheet ≡ Order.atomCount sheet ∷ Order.goalCount sheet ∷ rowWords (Order.orderRows sheet)
   order-sized = let p = order-passed shop sheet e in order-words sheet (p .long) (p .size)
