@@ -6,7 +6,8 @@ use Rattle.hgn.proofs.Questions.Answers.{demand-1}
 use Rattle.hgn.proofs.Run.Replay.{demand-2}
 use Rattle.hgn.proofs.Search.Search.{demand-2-of-search, search-agrees-with-replay}
 use Rattle.hgn.proofs.Join.Cut.{demand-3}
-use Rattle.hgn.proofs.Join.Replays.{demand-3-of-replays}
+use Rattle.hgn.proofs.Join.Replays.{demand-3-of-replays, join-rule-of-sheet, demand-3-of-calls}
+use Rattle.hgn.proofs.Join.Call.{joined-is-join, either-grouping, refused-joins}
 use Rattle.hgn.proofs.Run.Unmet.{unmet-is-named, unmet-is-first, tests-tell-first}
 use Rattle.hgn.proofs.Sheets.Written.{sheets-are-written}
 use Rattle.hgn.proofs.Run.Derivation.{accepted-is-derivation}
@@ -31,6 +32,11 @@ promised = record {
   unmet-is-named = unmet-is-named;
   unmet-is-first = unmet-is-first;
   tests-tell-first = tests-tell-first;
+  joined-is-join = joined-is-join;
+  join-rule-of-sheet = join-rule-of-sheet;
+  demand-3-of-calls = demand-3-of-calls;
+  either-grouping = either-grouping;
+  refused-joins = refused-joins;
 }
 
 pub read : Read

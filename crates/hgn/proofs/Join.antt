@@ -1,4 +1,4 @@
--- The join of two orders, and demand 3.
+-- The join of two orders, as a network and as a sheet, and demand 3.
 pub mod Goals
 pub mod Embedding
 pub mod Front
@@ -7,4 +7,6 @@ pub mod Cut
 pub mod Counted
 pub mod Rows
 pub mod Sheets
+pub mod Groups
+pub mod Call
 pub mod Replays

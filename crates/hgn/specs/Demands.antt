@@ -1,6 +1,6 @@
--- What is proved of the calls: the three demands of document 00 and Req 01 of document 02, each as a named type with its words quoted above it.
--- Demands 1 and 2, 3 of replays, and Req 01 speak of whatever answer and room at exit equal the definition's, and the contract of each call
--- says that its answer and room do; demand 3 itself speaks of orders and states. What the definitions say, read a second time, stands in
+-- What is proved of the calls: the three demands of document 00, Req 01 and Req 02 of document 02, each as a named type with its words quoted
+-- above it. Demands 1 and 2, 3 of replays, and the requests speak of whatever answer and room at exit equal the definition's, and the contract
+-- of each call says that its answer and room do; demand 3 itself speaks of orders and states. What the definitions say, read a second time, stands in
 -- `Readings`. Values stand in `proofs/`, gathered in `proofs/Demands.antt`.
 use Prim.Native.Nat.{ℕ, _+_, _*_, _≤_, _<_}
 use mathlib.Core.Path.{_≡_}
@@ -8,7 +8,7 @@ use mathlib.Core.Logic.{_↔_, _⊎_, _≢_}
 use mathlib.Core.List.{List, [], _∷_, _++_}
 use lib.ListN.{length, take, drop}
 use Rattle.hgn.specs.Lists.{At}
-use Rattle.hgn.specs.Questions.{Refusal, Failure, withoutAtom, Question, passed, answered, FirstNo, AllYes}
+use Rattle.hgn.specs.Questions.{Refusal, Failure, withoutAtom, Question, passed, refused, answered, FirstNo, AllYes}
 use Rattle.hgn.specs.Meaning.{Literal, Formula, Domain, Order}
 use Rattle.hgn.specs.Rows.{mostRows}
 use Rattle.hgn.specs.State.{State, mostAtoms, noAtom, emptyState, Entails, EntailsAll, Satisfies, unmet, unmetGoal}
@@ -21,6 +21,8 @@ use Rattle.hgn.specs.Trace.{sizeWords, stepCount, stepsOf, traceQuestion
 use Rattle.hgn.specs.Replay.{rulesOf, Answer, Replayed, replay, replayQuestions}
 use Rattle.hgn.specs.Lent.{Lent}
 use Rattle.hgn.specs.Search.{Earlier, mostDepth, Searched, search, searchQuestions}
+use Rattle.hgn.specs.JoinSheet.{joinQuestions, writeJoin, sheetIn}
+use Rattle.hgn.specs.Written.{orderWords}
 use Rattle.hgn.specs.Definition1.{Derivation}
 use Rattle.hgn.specs.Readings.{Reached}
 
@@ -63,13 +65,22 @@ failureOf a = record { refusal = a .refusal; atom = a .atom }
 abbrev pub ReplayAnswers : List ℕ → List ℕ → List ℕ → List ℕ → Replayed → Type 0
 ReplayAnswers shop sheet trace room c = AnswersFirst (replayQuestions shop sheet trace room) (failureOf (c .answer)) (Refuses room c)
 
--- What a call with lent room answers that tells number and place: refused, the room is as it was.
+-- A call that is lent room, and tells number and place, refuses by the first no of these questions; then the room is as it was.
 abbrev pub LentAnswers : {Room : Type 0} → List Question → Room → Lent Room → Type 0
 LentAnswers questions room c = AnswersFirst questions (withoutAtom (c .refusal)) (c .room ≡ room)
 
 -- The search's questions, 43 among them, name no atom.
 abbrev pub SearchAnswers : List ℕ → List ℕ → ℕ → List ℕ → Searched → Type 0
 SearchAnswers shop sheet depth room c = LentAnswers (searchQuestions shop sheet depth room) room c
+
+-- A call that writes sheets refuses by the first no, nothing written, and answers "0 and 0 when written".
+pub record WriteAnswers {Room : Type 0} (questions : List Question) (room : Room) (c : Lent Room) : Type 0 where
+  pub first : LentAnswers questions room c
+  pub written-place : c .refusal .number ≡ 0 → c .refusal .place ≡ 0
+
+-- The join's questions are those of three sheets, then 81 to 83; none names an atom.
+abbrev pub JoinAnswers : List ℕ → List ℕ → List ℕ → List ℕ → Lent (List ℕ) → Type 0
+JoinAnswers shop first second room c = WriteAnswers (joinQuestions shop first second room) room c
 
 pub record Demand1 : Type 0 where
   pub of-shop-check : (shop : List ℕ) (a : Refusal) → a ≡ answered (checkShop shop) → ShopCheckAnswers shop a
@@ -80,6 +91,8 @@ pub record Demand1 : Type 0 where
       → ReplayAnswers shop sheet trace room c
   pub of-search : (shop sheet : List ℕ) (depth : ℕ) (room : List ℕ) (c : Searched) → c ≡ search shop sheet depth room
       → SearchAnswers shop sheet depth room c
+  pub of-join : (shop first second room : List ℕ) (c : Lent (List ℕ)) → c ≡ writeJoin shop first second room
+      → JoinAnswers shop first second room c
 
 -- Demand 2. "With sheets that pass and room for as many words of plan as the trace has steps, a trace is accepted if and only if it is a
 -- derivation under Definition 1 of source document 000, with at most 64 goals waiting at each moment; plan, cost and last state are that
@@ -354,7 +367,100 @@ pub record TellsFirstUnmet (shop sheet trace : List ℕ) (c : Replayed) : Type 0
 abbrev pub UnmetIsFirst : Type 0
 UnmetIsFirst = (shop sheet trace room : List ℕ) (c : Replayed) → c ≡ replay shop sheet trace room → TellsFirstUnmet shop sheet trace c
 
--- The three demands, and what Req 01 adds.
+-- Document 02, Req 02. "Labs with the double-tray bench want the joined order as a sheet. Write it into lent room as document 01 lays it out.
+-- The join rule of the mission is then stated of the written sheet as well, and joining three orders gives the same words in either grouping
+-- wherever neither grouping is refused. 81 when the goals sum to more than 64, 82 when more than 4,000 rows come out, 83 when the room is
+-- short; asked in that order after the shop sheet, the first order and the second pass, in turn." That the call tells the first no of
+-- `joinQuestions`, and that a refusal writes nothing, is `of-join` of `Demand1`; `RefusedJoins` says each answer again without that list.
+
+-- Both orders pass with the shop sheet.
+abbrev pub BothPass : List ℕ → List ℕ → List ℕ → Type 0
+BothPass shop first second = (checkOrder shop first ≡ passed) × (checkOrder shop second ≡ passed)
+
+-- Where the call answers 0, the join's words stand first in the room, as `Written` writes out an order, and the room's later words are
+-- unchanged. The sheet in these words passes the order check with the shop sheet and means the join.
+pub record IsJoin (shop first second room : List ℕ) (c : Lent (List ℕ)) : Type 0 where
+  pub words : c .room
+      ≡ orderWords (atomCount shop) (join (order first) (order second))
+      ++ drop (length (orderWords (atomCount shop) (join (order first) (order second)))) room
+  pub sheet : sheetIn (c .room) ≡ orderWords (atomCount shop) (join (order first) (order second))
+  pub passes : checkOrder shop (sheetIn (c .room)) ≡ passed
+  pub means : order (sheetIn (c .room)) ≡ join (order first) (order second)
+  pub later-words : drop (length (sheetIn (c .room))) (c .room) ≡ drop (length (sheetIn (c .room))) room
+  pub room-length : length (c .room) ≡ length room
+
+abbrev pub JoinedIsJoin : Type 0
+JoinedIsJoin = (shop first second room : List ℕ) (c : Lent (List ℕ)) → c ≡ writeJoin shop first second room → c .refusal .number ≡ 0
+    → IsJoin shop first second room c
+
+-- The join rule of the written sheet, through the replay: it accepts exactly where the trace passes, the room has at least L words and there is
+-- a cut of the two orders as they were given; there is one at most; plan, cost and last state are the front's and the back's, as demand 3 says.
+pub record RuleOfSheet (shop first second trace room : List ℕ) (e : Replayed) : Type 0 where
+  pub accepted-iff : (e .answer .refusal .number ≡ 0)
+      ↔ (InputsPass shop first trace room × ((c : ℕ) × CutAt shop first second trace c))
+  pub one-cut : (c d : ℕ) → CutAt shop first second trace c → CutAt shop first second trace d → c ≡ d
+  pub results : InputsPass shop first trace room → (c : ℕ) (cut : CutAt shop first second trace c)
+      → Accepts shop trace room (cut .frontPlan ++ cut .backPlan) (cut .last) e
+  pub cost : InputsPass shop first trace room → (c : ℕ) (cut : CutAt shop first second trace c)
+      → e .answer .cost ≡ costOf (domain shop) (cut .frontPlan) + costOf (domain shop) (cut .backPlan)
+
+abbrev pub JoinRuleOfSheet : Type 0
+JoinRuleOfSheet = (shop first second room : List ℕ) (c : Lent (List ℕ)) → c ≡ writeJoin shop first second room → c .refusal .number ≡ 0
+    → (trace plan : List ℕ) (e : Replayed) → e ≡ replay shop (sheetIn (c .room)) trace plan → RuleOfSheet shop first second trace plan e
+
+-- Demand 3 of calls: the written sheet in the place of any sheet that means the join (`Whole`). Replays of the two parts are made as `Parts` says.
+pub record OfWritten (shop first second trace joined : List ℕ) : Type 0 where
+  pub means : order joined ≡ join (order first) (order second)
+  pub accepted-iff : (k : ReplayCall shop joined trace) (parts : (c : ℕ) → c ≤ stepCount trace → Parts shop first second trace c)
+      → Accepting k ↔ ((c : ℕ) × (h : c ≤ stepCount trace) × BothAccept (parts c h))
+  pub one-cut : (c d : ℕ) (p : Parts shop first second trace c) (q : Parts shop first second trace d) → BothAccept p → BothAccept q → c ≡ d
+  pub results : (k : ReplayCall shop joined trace) (c : ℕ) (p : Parts shop first second trace c) → BothAccept p
+      → OneAfterOther (record { joined = joined; means = means; call = k }) p
+
+abbrev pub Demand3OfCalls : Type 0
+Demand3OfCalls = (shop first second room : List ℕ) (c : Lent (List ℕ)) → c ≡ writeJoin shop first second room → c .refusal .number ≡ 0
+    → (trace : List ℕ) → checkTrace shop first trace ≡ passed → OfWritten shop first second trace (sheetIn (c .room))
+
+-- Three orders a, b and c, and two sheets: `ab` joined with c, and a joined with `bc`. With equal rooms both calls give the same answer and the
+-- same room at exit, refusals too; and whatever their rooms are, where both are written they write the same words.
+pub record SameJoins (shop ab c a bc : List ℕ) : Type 0 where
+  pub alike : (room : List ℕ) → writeJoin shop ab c room ≡ writeJoin shop a bc room
+  pub same-words : (room : List ℕ) (one : Lent (List ℕ)) → one ≡ writeJoin shop ab c room → one .refusal .number ≡ 0
+      → (room : List ℕ) (other : Lent (List ℕ)) → other ≡ writeJoin shop a bc room → other .refusal .number ≡ 0
+      → sheetIn (one .room) ≡ sheetIn (other .room)
+
+-- So it is where the two inner calls, of a with b and of b with c, are written, and `ab` and `bc` are what they wrote.
+abbrev pub EitherGrouping : Type 0
+EitherGrouping = (shop a b c : List ℕ)
+    → (room : List ℕ) (ab : Lent (List ℕ)) → ab ≡ writeJoin shop a b room → ab .refusal .number ≡ 0
+    → (room : List ℕ) (bc : Lent (List ℕ)) → bc ≡ writeJoin shop b c room → bc .refusal .number ≡ 0
+    → SameJoins shop (sheetIn (ab .room)) c a (sheetIn (bc .room))
+
+-- A refusal by this number at place 0.
+abbrev pub by : ℕ → Refusal
+by number = record { number = number; place = 0 }
+
+-- Each answer, by the checks of the two orders and by how many goals and rows come out: the first order's refusal, the shop sheet's included;
+-- where it passes, the second's; where both pass, 81, 82, 83, or 0 and 0.
+pub record JoinNumbers (shop first second room : List ℕ) (c : Lent (List ℕ)) (goals rows : ℕ) : Type 0 where
+  pub of-first : (f : Failure) → checkOrder shop first ≡ refused f → c .refusal ≡ f .refusal
+  pub of-second : checkOrder shop first ≡ passed → (f : Failure) → checkOrder shop second ≡ refused f → c .refusal ≡ f .refusal
+  pub by-81 : (c .refusal ≡ by 81) ↔ (BothPass shop first second × (64 < goals))
+  pub by-82 : (c .refusal ≡ by 82) ↔ (BothPass shop first second × (goals ≤ 64) × (4000 < rows))
+  pub by-83 : (c .refusal ≡ by 83) ↔ (BothPass shop first second × (goals ≤ 64) × (rows ≤ 4000) × (length room < 3 + 2 * rows))
+  pub written : (c .refusal ≡ by 0) ↔ (BothPass shop first second × (goals ≤ 64) × (rows ≤ 4000) × (3 + 2 * rows ≤ length room))
+  -- After 81 "no trace is accepted on the join and no cut will do". 82 and 83 say nothing of acceptance: "As a network the join has no limit on rows."
+  pub none-accepted : c .refusal .number ≡ 81 → (xs : List Step)
+      → ((plan : List ℕ) (last : State) → ¬ OnJoin (rulesOf shop) (order first) (order second) xs plan last)
+      × ((d : ℕ) → ¬ Cut (rulesOf shop) (order first) (order second) xs d)
+
+-- G + H goals come out, and so many rows: the first's, the second's less its 12 rows, and G times H more.
+abbrev pub RefusedJoins : Type 0
+RefusedJoins = (shop first second room : List ℕ) (c : Lent (List ℕ)) → c ≡ writeJoin shop first second room
+    → (rows : ℕ) → rows + length (order second .start) ≡ rowCount first + rowCount second + length (order first .goals) * length (order second .goals)
+    → JoinNumbers shop first second room c (length (order first .goals) + length (order second .goals)) rows
+
+-- The three demands, and what Req 01 and Req 02 add.
 pub record Promised : Type 1 where
   pub demand-1 : Demand1
   pub demand-2 : Demand2
@@ -365,3 +471,8 @@ pub record Promised : Type 1 where
   pub unmet-is-named : UnmetIsNamed
   pub unmet-is-first : UnmetIsFirst
   pub tests-tell-first : TestsTellFirst
+  pub joined-is-join : JoinedIsJoin
+  pub join-rule-of-sheet : JoinRuleOfSheet
+  pub demand-3-of-calls : Demand3OfCalls
+  pub either-grouping : EitherGrouping
+  pub refused-joins : RefusedJoins

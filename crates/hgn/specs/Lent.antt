@@ -9,11 +9,11 @@ pub record Lent (Room : Type 0) : Type 0 where
   pub refusal : Refusal
   pub room : Room
 
--- "refused, it writes nothing and answers the number and its place".
+-- A refused call leaves its room as it was: "it writes nothing and answers the number and its place".
 unfoldable pub unwritten : {Room : Type 0} → Room → Refusal → Lent Room
 unwritten room q = record { refusal = q; room = room }
 
--- A room with these words first in it, "the rest unchanged".
+-- The room at exit has these words first, "the rest unchanged". A call asks first that the room is long enough for them.
 unfoldable pub overwritten : List ℕ → List ℕ → List ℕ
 overwritten words room = words ++ drop (length words) room
 
@@ -24,6 +24,6 @@ asking questions room done = elim (firstNo questions) [
   | passed ↦ done
 ]
 
--- "A call that writes sheets or a list answers the same, 0 and 0 when written": `before` is its room at entry, `after` what it writes.
+-- "A call that writes sheets or a list answers the same, 0 and 0 when written": its room is `before` at entry, and `after` once it has written.
 unfoldable pub writing : {Room : Type 0} → List Question → Room → Room → Lent Room
 writing questions before after = asking questions before (record { refusal = noRefusal; room = after })

@@ -11,7 +11,7 @@ pub mod Questions
 pub mod Network
 pub mod Run
 pub mod Join
--- "Questions, and the number when the answer is no", with the sizes of each sheet from "The three sheets".
+-- "Questions, and the number when the answer is no", with the sizes of each sheet from "The three sheets"; `JoinSheet` is Req 02 of document 02.
 pub mod RowQuestions
 pub mod Shop
 pub mod Order
@@ -26,6 +26,7 @@ pub mod Written
 pub mod Definition1
 pub mod Readings
 pub mod Demands
--- "One core of sixty centimetres": the marked cases; and a case for each question but 27.
+-- "One core of sixty centimetres": the marked cases; and a case for each question but 27; then of Req 02.
 pub mod Cases
 pub mod QuestionCases
+pub mod JoinCases

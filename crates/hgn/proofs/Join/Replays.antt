@@ -20,9 +20,11 @@ use Rattle.hgn.specs.Join.{raised, join}
 use Rattle.hgn.specs.Shop.{domain}
 use Rattle.hgn.specs.Order.{order, rowCount, checkOrder}
 use Rattle.hgn.specs.Trace.{stepCount, stepsOf, checkTrace}
-use Rattle.hgn.specs.Replay.{rulesOf, replay}
-use Rattle.hgn.specs.JoinSheet.{joinedWords}
+use Rattle.hgn.specs.Replay.{rulesOf, Replayed, replay}
+use Rattle.hgn.specs.JoinSheet.{joinedWords, writeJoin, sheetIn}
+use Rattle.hgn.specs.Lent.{Lent}
 use Rattle.hgn.specs.Demands.{Accepts, OnJoin, JoinRule, ReplayCall, Accepting, planIn, Whole, Parts, Counted, BothAccept, OneAfterOther, CutAt, JoinOfReplays, Demand3OfReplays}
+use Rattle.hgn.specs.Demands.{InputsPass, BothPass, IsJoin, RuleOfSheet, JoinRuleOfSheet, Demand3OfCalls}
 use Rattle.hgn.proofs.Logic.Tests.{strict-decided}
 use Rattle.hgn.proofs.Sheets.Passed.{TracePassed, trace-passed, passed-trace}
 use Rattle.hgn.proofs.Sheets.Checked.{order-of-trace, shop-of-order, order-goals, shop-actions}
@@ -34,6 +36,7 @@ use Rattle.hgn.proofs.Join.Counted.{counted-start, counted-runs, runs-c
 use Rattle.hgn.proofs.Sheets.Trace.{frontOf, backOf, front-passes, front-steps, back-passes, back-steps, steps-length}
 use Rattle.hgn.proofs.Sheets.Starts.{from-state, last-fits}
 use Rattle.hgn.proofs.Join.Rows.{joined-goals}
+use Rattle.hgn.proofs.Join.Call.{joined-is-join, Wrote, wrote}
 use Rattle.hgn.proofs.Join.Sheets.{joined-means, joined-passes, surely-few}
 use Rattle.hgn.proofs.Run.Replay.{demand-2}
 use Rattle.hgn.proofs.Join.Cut.{demand-3}
@@ -175,13 +178,19 @@ module _ (shop first second trace : List ℕ)
     (λ h. let t = rule .accepted-iff .1 h in run-accepts (k .call) (t .0) (t .1) (from-join k (t .0) (t .1) (t .2)) .number),
   )
 
+  -- At a cut the replay on the join accepts with the front's results and then the back's.
+  cut-accepts : (k : Whole shop first second trace) (c : ℕ) (cut : CutAt shop first second trace c)
+      → Gives (k .call) (cut .frontPlan ++ cut .backPlan) (cut .last)
+  cut-accepts k c cut =
+      let plan = cut .frontPlan ++ cut .backPlan in
+      run-accepts (k .call) plan (cut .last) (from-join k plan (cut .last) (rule .results c cut plan (cut .last) .1 (refl, refl)))
+
   one-after-other : (k : Whole shop first second trace) (c : ℕ) (p : Parts shop first second trace c) → BothAccept p → OneAfterOther k p
   one-after-other k c p b =
       let cut = parts-cut p b in
       let t = cut-ran p cut in
       let plan = cut .frontPlan ++ cut .backPlan in
-      let on = rule .results c cut plan (cut .last) .1 (refl, refl) in
-      let w = run-accepts (k .call) plan (cut .last) (from-join k plan (cut .last) on) in
+      let w = cut-accepts k c cut in
       record {
         number = w .number;
         place = w .place;
@@ -290,3 +299,62 @@ demand-3-of-replays = record {
         parts = parts-are-there shop first second trace h k steps;
       };
 }
+
+-- The same of the sheet that the join's call wrote.
+
+module _ (shop first second room : List ℕ) (c : Lent (List ℕ)) (called : c ≡ writeJoin shop first second room) (zero : c .refusal .number ≡ 0) where
+  written : IsJoin shop first second room c
+  written = joined-is-join shop first second room c called zero
+
+  both-pass : BothPass shop first second
+  both-pass = wrote shop first second room c called zero .both
+
+  -- Replays of the written sheet are replays on the join.
+  abbrev whole-of : (trace : List ℕ) → ReplayCall shop (sheetIn (c .room)) trace → Whole shop first second trace
+  whole-of trace k = record { joined = sheetIn (c .room); means = written .means; call = k }
+
+  module _ (trace plan : List ℕ) (e : Replayed) (replayed : e ≡ replay shop (sheetIn (c .room)) trace plan) where
+    -- A trace that passes with one of the sheets passes with the other.
+    to-first : InputsPass shop (sheetIn (c .room)) trace plan → InputsPass shop first trace plan
+    to-first h = (passed-trace shop first trace (both-pass .0) (trace-passed shop (sheetIn (c .room)) trace (h .0)), h .1)
+
+    abbrev call : InputsPass shop first trace plan → ReplayCall shop (sheetIn (c .room)) trace
+    call h = record {
+      room = plan;
+      result = e;
+      inputs = (passed-trace shop (sheetIn (c .room)) trace (written .passes) (trace-passed shop first trace (h .0)), h .1);
+      called = replayed;
+    }
+
+    accepts : (h : InputsPass shop first trace plan) (d : ℕ) (cut : CutAt shop first second trace d)
+        → Accepts shop trace plan (cut .frontPlan ++ cut .backPlan) (cut .last) e
+    accepts h d cut =
+        cut-accepts shop first second trace (both-pass .0) (both-pass .1) (trace-passed shop first trace (h .0)) (whole-of trace (call h)) d cut
+
+    sheet-rule : RuleOfSheet shop first second trace plan e
+    sheet-rule = record {
+      accepted-iff = (
+        (λ z.
+            let h = to-first (demand-2 shop (sheetIn (c .room)) trace plan e replayed .accepts-iff .0 z .0) in
+            (h, accepted-cut shop first second trace (both-pass .0) (both-pass .1) (trace-passed shop first trace (h .0)) (whole-of trace (call h)) .0 z)),
+        (λ h. accepts (h .0) (h .1 .0) (h .1 .1) .number),
+      );
+      one-cut = demand-3 shop first second (both-pass .0) (both-pass .1) (rulesOf shop) refl (stepsOf trace) .one-cut;
+      results = accepts;
+      cost = λ h d cut. accepts h d cut .cost ∙ cost-append (domain shop) (cut .frontPlan) (cut .backPlan);
+    }
+
+pub join-rule-of-sheet : JoinRuleOfSheet
+join-rule-of-sheet = sheet-rule
+
+pub demand-3-of-calls : Demand3OfCalls
+demand-3-of-calls shop first second room c called zero trace passes =
+    let both = both-pass shop first second room c called zero in
+    let rule = join-of-replays shop first second trace (both .0) (both .1) (trace-passed shop first trace passes) in
+    let whole = whole-of shop first second room c called zero trace in
+    record {
+      means = written shop first second room c called zero .means;
+      accepted-iff = λ k. rule .accepted-iff (whole k);
+      one-cut = rule .one-cut;
+      results = λ k. rule .results (whole k);
+    }

@@ -1,4 +1,4 @@
--- Demand 1: the checks, the replay and the search answer with the first question whose answer is no, and leave what they were lent.
+-- Demand 1: the checks, the replay, the search and the join answer with the first question whose answer is no, and leave what they were lent.
 -- Assumes nothing.
 use Prim.Native.Nat.{ℕ}
 use mathlib.Core.Path.{_≡_, refl, sym, ap, subst, _∙_}
@@ -15,6 +15,7 @@ use Rattle.hgn.proofs.Questions.FirstNo.{Numbers, numbers-append, Tells
 use Rattle.hgn.proofs.Questions.Numbers.{shop-numbers, of-order, of-trace, replay-not-zero, not-zero}
 use Rattle.hgn.proofs.Run.Replay.{replay-tells, replay-refuses}
 use Rattle.hgn.proofs.Questions.Lent.{lent-answers}
+use Rattle.hgn.proofs.Join.Call.{join-answers}
 use native.Mathlib.Omega.{arith}
 
 -- A check that answers the verdict of its questions.
@@ -45,4 +46,5 @@ demand-1 = record {
   of-replay = λ shop sheet trace room c e.
       answers-first _ _ _ (replay-not-zero shop sheet trace room) (replay-tells shop sheet trace room c e) (replay-refuses shop sheet trace room c e);
   of-search = search-answers;
+  of-join = join-answers;
 }
