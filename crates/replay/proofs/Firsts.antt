@@ -23,7 +23,8 @@ use Rattle.sheet_rows.specs.declared.position.Sheet.the-variants as Of
 use Rattle.sheet_index.specs.Index.{ends, span, spanRows, spanOf}
 use Rattle.sheet_check.proofs.Lookup.{rows-at}
 use Rattle.sheet_index.proofs.Spans.{by-test, ends-length, NodesFrom}
-use Rattle.sheet_index.proofs.Indexed.{order-length, order-whole, order-nodes-here, order-nodes-later, order-until, order-columns, order-fits}
+use Rattle.sheet_check.proofs.Orders.{order-fits, order-length}
+use Rattle.sheet_index.proofs.Indexed.{order-whole, order-nodes-here, order-nodes-later, order-until, order-columns}
 use Rattle.network.specs.Entries.{orderOrigin, waitingOf}
 use Rattle.sheet_index.specs.Tables.{Bounds, Walk, nodeAt}
 use Rattle.network.specs.Entering.{entriesFrom}

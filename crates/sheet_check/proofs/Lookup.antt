@@ -2,11 +2,12 @@
 use Prim.Native.Nat.{ℕ, zero, suc, _+_, _<_, _≤_}
 use native.Mathlib.Omega.{arith}
 use native.Mathlib.Nat.{not-suc-le-zero, le-of-suc-le-suc}
-use mathlib.Core.Path.{_≡_, refl, ap, ap₂, _∙_}
+use native.Mathlib.Numerals.{add-one}
+use mathlib.Core.Path.{_≡_, refl, sym, ap, ap₂, _∙_}
 use mathlib.Core.List.{List, [], _∷_, zipWith}
-use lib.ListN.{length, getD, take, drop, length-take, length-drop}
-use lib.Seq.{getD-take, getD-drop}
-use Rattle.hgn.specs.Rows.{row, rowsOf}
+use lib.ListN.{length, getD, take, drop, length-take, length-drop, drop-of-length-le}
+use lib.Seq.{getD-take, getD-drop, drop-cons}
+use Rattle.hgn.specs.Rows.{Row, row, rowsOf}
 
 module _ {A B C : Type 0} (f : A → B → C) where
   pub length-zipWith : (n : ℕ) (xs : List A) (ys : List B) → length xs ≡ n → length ys ≡ n → length (zipWith f xs ys) ≡ n
@@ -46,3 +47,14 @@ module _ (sizes n : ℕ) (words : List ℕ) (fits : sizes + (n + n) ≤ length w
       getD-zipWith row (take n (drop sizes words)) (take n (drop (sizes + n) words)) i 0 0
       (rw (length-part words sizes n (omega arith)) h) (rw (length-part words (sizes + n) n (omega arith)) h)
       ∙ ap₂ row (getD-part words sizes n (omega arith) i h) (getD-part words (sizes + n) n (omega arith) i h)
+
+  -- The rows from row `i` on, whose tag and value were read.
+  pub rows-from : (i : ℕ) → i < n → {t v : ℕ} → t ≡ getD words (sizes + i) 0 → v ≡ getD words (sizes + n + i) 0
+      → drop i (rowsOf sizes n words) ≡ row t v ∷ drop (i + 1) (rowsOf sizes n words)
+  rows-from i h p q =
+      let rows = rowsOf sizes n words in
+      drop-cons rows i (row 0 0) (rw rows-length h)
+      ∙ ap₂ {C = List Row} (λ r k. r ∷ drop k rows) (rows-at i h ∙ ap₂ row (sym p) (sym q)) (sym (add-one i))
+
+  pub rows-end : (i : ℕ) → n ≤ i → drop i (rowsOf sizes n words) ≡ []
+  rows-end i h = drop-of-length-le (rowsOf sizes n words) {i = i} (rw rows-length h)

@@ -2,5 +2,6 @@
 pub mod PartCounts
 pub mod Scanned
 pub mod Sizes
+pub mod Puts
 pub mod Answers
 pub mod Demands

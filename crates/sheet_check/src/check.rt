@@ -147,7 +147,7 @@ pub fn check_shop(shop: &[u16]) -> Refusal
 }
 
 // Questions 11 to 18, of an order sheet; the shop sheet is asked before.
-fn ask_order(shop: &[u16], order: &[u16]) -> Refusal
+pub fn ask_order(shop: &[u16], order: &[u16]) -> Refusal
     ensures { λ r. ⌜ refusalOf r ≡ answered (firstNo (orderQuestions (now (shop .entry)) (now (order .entry)))) ⌝ }
 {
     if order.len() < Order::SIZES {

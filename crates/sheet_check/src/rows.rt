@@ -10,6 +10,8 @@ ghost use Prim.Native.Nat.{_+_, _<_, _≤_};
 ghost use lib.ListN.{length, getD};
 ghost use Rattle.hgn.specs.Questions.{_asks_, _askedAt_, passed, answered};
 ghost use Rattle.hgn.specs.Rows.{mostRows, rowsOf};
+ghost use Rattle.hgn.specs.Rows as HgnRow;
+ghost use Rattle.sheet_check.specs.Puts.{putRow};
 ghost use Rattle.sheet_rows.specs.Refusals.{refusalOf};
 ghost use Rattle.sheet_check.specs.Scanned.{Scanned};
 
@@ -85,6 +87,17 @@ impl Layout {
     {
         let at = self.sizes + self.rows + row.0 as usize;
         words[at]
+    }
+
+    // Puts a row into lent room.
+    pub fn put(self, room: &mut [u16], row: Row, tag: u16, value: u16)
+        requires { ⌜ (row .0 < self .rows) × (self .sizes + (self .rows + self .rows) ≤ length (now room)) ⌝ }
+        ensures { λ _. ⌜ now (room .exit) ≡ putRow (self .sizes) (self .rows) (row .0) (HgnRow.row tag value) (now (room .entry)) ⌝ }
+    {
+        let at = self.sizes + row.0 as usize;
+        room[at] = tag;
+        let behind = self.sizes + self.rows + row.0 as usize;
+        room[behind] = value;
     }
 
     // The questions of every row, in order.

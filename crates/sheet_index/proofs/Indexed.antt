@@ -18,13 +18,14 @@ use Rattle.hgn.specs.Shop.{shopRows}
 use Rattle.hgn.specs.Order as Order
 use Rattle.hgn.specs.Order.{orderRows}
 use Rattle.hgn.proofs.Logic.Tests.{or-false}
-use Rattle.hgn.proofs.Sheets.Passed.{shop-passed, order-passed}
+use Rattle.hgn.proofs.Sheets.Passed.{shop-passed}
 use Rattle.hgn.proofs.Sheets.Readback.{actions-kept, methods-kept}
 use Rattle.hgn.proofs.Sheets.Written as Written
-use Rattle.hgn.proofs.Sheets.Written.{shop-parts, shop-rules, order-begins-none, order-rules}
+use Rattle.hgn.proofs.Sheets.Written.{shop-parts, shop-rules, order-begins-none}
 use Rattle.sheet_rows.specs.declared.position.Sheet.the-variants as Of
 use Rattle.sheet_index.specs.Index.{starts, ends, span, Indexable, layoutOf, spanOf, tagsOf, valuesOf, spanRows}
 use Rattle.sheet_check.proofs.Lookup.{rows-length}
+use Rattle.sheet_check.proofs.Orders.{order-fits, order-few, order-length}
 use Rattle.sheet_index.proofs.Spans.{span-take-until, bounds, Until, until-suc, NodesFrom, starts-count, operator-span, first-node, columns-span}
 
 -- What stands past the actions and the methods.
@@ -118,26 +119,15 @@ none-open (r ∷ rows) i e =
     rw (a .0) (ih .0, ap (_∷_ r) (ih .1))
 
 module _ (shop sheet : List ℕ) (e : Order.checkOrder shop sheet ≡ passed) where
-  pub order-fits : Order.sizeWords + (Order.rowCount sheet + Order.rowCount sheet) ≤ length sheet
-  order-fits = omega (arith, order-passed shop sheet e .size)
-
   none-begins : (starts 0 (orderRows sheet) ≡ []) × (takeUntil beginsOperator (orderRows sheet) ≡ (orderRows sheet))
   none-begins = none-open (orderRows sheet) 0 (order-begins-none shop sheet e)
-
-  -- No sheet has more than 4,000 rows.
-  pub order-few : Order.rowCount sheet ≤ 4000
-  order-few = omega (arith, order-rules shop sheet e .few-rows, Written.order-length shop sheet e)
-
-  pub order-length : length (orderRows sheet) ≡ Order.rowCount sheet
-  unfolding orderRows
-  order-length = rows-length Order.sizeWords (Order.rowCount sheet) sheet order-fits
 
   pub order-starts : starts 0 (orderRows sheet) ≡ []
   order-starts = none-begins .0
 
   -- The whole sheet, from 0 up to N, is rows of goals and before them rows of atoms true at the start.
   pub order-until : Until (orderRows sheet) 0 (Order.rowCount sheet)
-  order-until = rw (none-begins .1) (omega (arith, order-length))
+  order-until = rw (none-begins .1) (omega (arith, order-length shop sheet e))
 
   pub order-whole : span (orderRows sheet) 0 (Order.rowCount sheet) ≡ orderRows sheet
   order-whole = span-take-until (orderRows sheet) 0 beginsOperator (Order.rowCount sheet) order-until ∙ none-begins .1
@@ -151,13 +141,13 @@ module _ (shop sheet : List ℕ) (e : Order.checkOrder shop sheet ≡ passed) wh
       (splitAtEach (has Tag.node) (span (orderRows sheet) 0 (Order.rowCount sheet)) ≡ splitAtEach (has Tag.node) (span (orderRows sheet) next (Order.rowCount sheet)))
       × NodesFrom (orderRows sheet) next (Order.rowCount sheet)
   order-nodes-later h o =
-      first-node (orderRows sheet) 0 (Order.rowCount sheet) (omega (arith, order-length)) (until-suc (orderRows sheet) 0 (Order.rowCount sheet) order-until h) o
+      first-node (orderRows sheet) 0 (Order.rowCount sheet) (omega (arith, order-length shop sheet e)) (until-suc (orderRows sheet) 0 (Order.rowCount sheet) order-until h) o
 
   pub order-indexable : {table : List ℕ} → mostRows < length table → Indexable sheet (layoutOf Of.Order sheet) table 0
   unfolding orderRows
-  order-indexable r = record { fits = order-fits; few = order-few; room = r; counted = sym (ap length order-starts) }
+  order-indexable r = record { fits = order-fits shop sheet e; few = order-few shop sheet e; room = r; counted = sym (ap length order-starts) }
 
   pub order-columns : (from to : ℕ) → from ≤ to → to ≤ Order.rowCount sheet →
       spanRows shop sheet (spanOf Of.Order from to) ≡ span (orderRows sheet) from to
   unfolding spanRows tagsOf valuesOf orderRows
-  order-columns from to f t = columns-span sheet (layoutOf Of.Order sheet) from to f t order-fits
+  order-columns from to f t = columns-span sheet (layoutOf Of.Order sheet) from to f t (order-fits shop sheet e)

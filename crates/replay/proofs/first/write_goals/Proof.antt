@@ -6,7 +6,7 @@ use borrow.Author.Needs.{needs}
 use Rattle.hgn.specs.Order as Order
 use Rattle.hgn.proofs.Sheets.Checked.{order-count, order-goals}
 use Rattle.sheet_index.specs.Tables.{Walk}
-use Rattle.sheet_index.proofs.Indexed.{order-few}
+use Rattle.sheet_check.proofs.Orders.{order-few}
 use Rattle.replay.proofs.Firsts.{GoalsAt, goals-read, goals-begun}
 use Rattle.replay.proofs.first.write_goals.Statement.{statement}
 use Rattle.replay.proofs.first.write_goals.Tie as tie
