@@ -1,0 +1,3 @@
+-- What the call promises, and what its functions share.
+pub mod Joinings
+pub mod Demands
