@@ -1,5 +1,6 @@
 /*
- * The five public calls of Liropuva for C: the checks of the three sheets, the replay of a trace, and the bounded search.
+ * The six public calls of Liropuva for C: the checks of the three sheets, the replay of a trace, the bounded search, and the
+ * join of two orders.
  *
  * docs/SPECIFICATION.md, section 1, says what the sheets are: in an array all tags stand before all values, all moves before
  * all places. docs/REFUSALS.md has each number that a call can answer; docs/CALLING.md has worked examples. Each call answers
@@ -19,16 +20,18 @@
  *
  * There is no global state: calls may run in several threads at once, each on memory of its own; sheets may be shared.
  *
- * Stack, measured and read off the compiled code, since no proof bounds it: under 1 kB for the checks, some 12 kB for
- * hgn_replay, which does not recurse, some 98 kB for hgn_search at depth 32 (2.6 kB for each step of depth). HGN_REPLAY_STACK
- * and HGN_SEARCH_STACK below leave room above that. A frame larger than a page is probed page by page, so that a guard page
- * below the stack is met and not jumped over.
+ * Stack, measured and read off the compiled code, since no proof bounds it: under 1 kB for the checks and hgn_join, some 12 kB
+ * for hgn_replay, which does not recurse, some 98 kB for hgn_search at depth 32 (2.6 kB for each step of depth).
+ * HGN_REPLAY_STACK and HGN_SEARCH_STACK below leave room above that. A frame larger than a page is probed page by page, so
+ * that a guard page below the stack is met and not jumped over.
  *
  * A call whose shape changes (its parameters, their widths, how much it writes) gets a new symbol: its name with a number
  * behind it. The old symbol goes, and a macro of this header keeps the plain name for C. So an object that was compiled with
  * an older header, which asks for the old symbol, does not link, rather than misbehave. This holds for every later change. A
- * language that does not read this header declares the symbol with its number. HGN_INTERFACE goes up with each such change.
+ * language that does not read this header declares the symbol with its number. HGN_INTERFACE goes up with each such change, and
+ * with each new call.
  * Interface 3: the array `answer` of hgn_replay grew from four words to five, HGN_REPLAY_ANSWER. A caller lends one word more.
+ * Interface 4: hgn_join is new. No other call changed, and objects that were compiled with the header of interface 3 link.
  *
  * To link, on x86-64 Linux: `rt staticlib capi` proves the crate and writes target/staticlib/libcapi.a, which needs only
  * memcpy and memset of the C library:  cc -Iinclude program.c target/staticlib/libcapi.a
@@ -44,12 +47,13 @@ extern "C" {
 #endif
 
 /* The number of this interface, for code that is compiled with more than one: CHANGES.md says what each number brought. */
-#define HGN_INTERFACE 3
+#define HGN_INTERFACE 4
 
 /* The words of each answer. */
 #define HGN_CHECK_ANSWER 2
 #define HGN_REPLAY_ANSWER 5
 #define HGN_SEARCH_ANSWER 2
+#define HGN_JOIN_ANSWER 2
 
 /* The bytes of a state: as many for every shop, whatever its F. */
 #define HGN_ATOMS 256
@@ -57,7 +61,7 @@ extern "C" {
 /* The fifth word of a replay's answer where it names no atom: atoms are below it. */
 #define HGN_NO_ATOM 256
 
-/* Bytes of stack that were enough in every measurement, for hgn_replay and the checks, and for hgn_search at depth 32. */
+/* Bytes of stack that were enough in every measurement: for hgn_replay, hgn_join and the checks; for hgn_search at depth 32. */
 #define HGN_REPLAY_STACK 32768
 #define HGN_SEARCH_STACK 131072
 
@@ -124,6 +128,23 @@ void hgn_search_2(const uint16_t *shop, size_t shop_words,
                   uint32_t depth,
                   uint16_t *room, size_t room_words,
                   uint32_t answer[HGN_SEARCH_ANSWER]);
+
+/*
+ * The join of two orders, written as one order sheet: the first's rows as they stand, then the second's goals, each of which
+ * also comes after all goals of the first; the numbers in the second's own 11 rows are raised by the first's number of goals.
+ * The second's 12 rows are checked, then dropped: the join does not read them. `first` and `second` may be one sheet.
+ * Written: answer is 0 and 0, and the joined sheet of N rows stands in the first 3 + 2N words of `room`, N in room[2]; later
+ * words are unchanged. HGN_MOST_ORDER_WORDS words of room are always enough.
+ * Refused: number and place, and `room` is unchanged. Behind the shop sheet's questions come those of the first order, then
+ * those of the second with the same numbers, so that 11 to 18 can be of either: check the first alone to tell which. Then 81 at
+ * 0: the two have more than 64 goals together; 82 at 0: N, the number of rows that come out, is above 4,000; 83 at 0: `room` of
+ * fewer than 3 + 2N words.
+ */
+void hgn_join(const uint16_t *shop, size_t shop_words,
+              const uint16_t *first, size_t first_words,
+              const uint16_t *second, size_t second_words,
+              uint16_t *room, size_t room_words,
+              uint32_t answer[HGN_JOIN_ANSWER]);
 
 #ifdef __cplusplus
 }

@@ -1,4 +1,4 @@
--- The answers of the five calls, as the words and bytes that C reads them in. Document 01, "Questions"; document 02, Req 01.
+-- The answers of the six calls, as the words and bytes that C reads them in. Document 01, "Questions"; document 02, Reqs 01 and 02.
 use Prim.Native.Nat.{ℕ}
 use mathlib.Core.Path.{_≡_}
 use mathlib.Core.Bool.{Bool, true, false}
@@ -6,9 +6,9 @@ use mathlib.Core.List.{List, [], _∷_, _++_, map}
 use Rattle.hgn.specs.Questions.{Refusal}
 use Rattle.hgn.specs.State.{State}
 use Rattle.hgn.specs.Replay.{Answer, Replayed}
-use Rattle.hgn.specs.Search.{Searched}
+use Rattle.hgn.specs.Lent.{Lent}
 
--- "Sheet checks answer number and place". The replay and the search have them in their first two words.
+-- "Sheet checks answer number and place". The other calls have them in their first two words.
 abbrev pub refusalWords : Refusal → List ℕ
 refusalWords r = r .number ∷ r .place ∷ []
 
@@ -31,7 +31,7 @@ pub record ReplayLeft (c : Replayed) (plan answer atoms : List ℕ) : Type 0 whe
   pub answers : answer ≡ answerWords (c .answer)
   pub state : atoms ≡ stateBytes (c .answer .state)
 
--- What the search's call leaves in the room for the trace and in the answer.
-pub record SearchLeft (c : Searched) (room answer : List ℕ) : Type 0 where
+-- What the calls of the search and of the join leave in the room, for a trace or for a sheet, and in the answer.
+pub record LentLeft (c : Lent (List ℕ)) (room answer : List ℕ) : Type 0 where
   pub leaves : room ≡ c .room
   pub answers : answer ≡ refusalWords (c .refusal)

@@ -1,17 +1,19 @@
-// The five public calls for a caller of C: plain names, and each answer written where the caller lends room for it. Document 01,
+// The six public calls for a caller of C: plain names, and each answer written where the caller lends room for it. Document 01,
 // "Questions". `include/liropuva.h` declares them.
 use replay::call::replay;
 use search::call::search;
 use sheet_check::check;
 use sheet_check::check::Shop;
+use sheet_join::call::join;
 ghost use mathlib.Core.Path.{_≡_};
 ghost use Rattle.hgn.specs.Shop.{checkShop};
 ghost use Rattle.hgn.specs.Order.{checkOrder};
 ghost use Rattle.hgn.specs.Trace.{checkTrace};
 ghost use Rattle.hgn.specs.Replay as Replay;
 ghost use Rattle.hgn.specs.Search as Search;
+ghost use Rattle.hgn.specs.JoinSheet.{writeJoin};
 ghost use Rattle.hgn.specs.Questions.{answered};
-ghost use Rattle.capi.specs.Words.{refusalWords, stateBytes, ReplayLeft, SearchLeft};
+ghost use Rattle.capi.specs.Words.{refusalWords, stateBytes, ReplayLeft, LentLeft};
 
 // A state's atoms as bytes: 1 for an atom that is in, 0 for one that is not.
 fn bytes_of(atoms: [bool; Shop::MOST_ATOMS as usize]) -> [u8; Shop::MOST_ATOMS as usize]
@@ -90,8 +92,24 @@ pub extern "C" fn hgn_search_2<'a>(
     room: &mut [u16],
     answer: &mut [u32; 2],
 )
-    ensures { λ _. ⌜ SearchLeft (Search.search (now (shop .entry)) (now (order .entry)) depth (now (room .entry))) (now (room .exit)) (now (answer .exit)) ⌝ }
+    ensures { λ _. ⌜ LentLeft (Search.search (now (shop .entry)) (now (order .entry)) depth (now (room .entry))) (now (room .exit)) (now (answer .exit)) ⌝ }
 {
     let found = search(shop, order, depth, room);
     *answer = [found.number as u32, found.place as u32];
+}
+
+// Questions 1 to 9, 11 to 18 of the first order, 11 to 18 of the second, then 81 to 83. Written, the joined sheet stands in the first words
+// of the room.
+#[no_mangle]
+pub extern "C" fn hgn_join<'a>(
+    shop: &'a [u16],
+    first: &'a [u16],
+    second: &'a [u16],
+    room: &mut [u16],
+    answer: &mut [u32; 2],
+)
+    ensures { λ _. ⌜ LentLeft (writeJoin (now (shop .entry)) (now (first .entry)) (now (second .entry)) (now (room .entry))) (now (room .exit)) (now (answer .exit)) ⌝ }
+{
+    let joined = join(shop, first, second, room);
+    *answer = [joined.number as u32, joined.place as u32];
 }
