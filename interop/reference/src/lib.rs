@@ -3,13 +3,14 @@
 //! It shares no code with the proved library, so that the two can be compared
 //! on any input, and it is the baseline of the benchmarks.
 //!
-//! The five public calls take the sheets as words, as the library does. Below
+//! The six public calls take the sheets as words, as the library does. Below
 //! them [`Shop`], [`Network`], [`Trace`] and [`Run`] are open for tests that
-//! walk step by step, join two orders or run by other [`Rules`].
+//! walk step by step, join two orders as networks or run by other [`Rules`].
 
 #![forbid(unsafe_code)]
 #![warn(missing_docs)]
 
+mod join;
 mod literals;
 mod network;
 mod run;
@@ -27,6 +28,7 @@ pub use sheet::{
 };
 pub use unmet::ReplayRefusal;
 
+use join::JoinedSheet;
 use sheet::{OrderSheet, ShopSheet};
 use unmet::SheetRows;
 
@@ -115,4 +117,30 @@ pub fn search_within(
         places[i] = step.place;
     }
     Ok(steps.len())
+}
+
+/// Questions 1 to 9, 11 to 18 of the first order, 11 to 18 of the second, then
+/// 81 to 83. Gives the number of words of the joined sheet; it is written only
+/// then.
+pub fn join(
+    shop: &[u16],
+    first: &[u16],
+    second: &[u16],
+    room: &mut [u16],
+) -> Result<usize, Refusal> {
+    let shop = ShopSheet::check(shop)?;
+    let first = OrderSheet::check(shop.atoms, first)?;
+    let second = OrderSheet::check(shop.atoms, second)?;
+    if first.goals + second.goals > MAX_GOALS {
+        return Err(Refusal::new(81, 0));
+    }
+    let joined = JoinedSheet::of(shop.atoms, &first, &second);
+    if joined.rows() > usize::from(MAX_ROWS) {
+        return Err(Refusal::new(82, 0));
+    }
+    let Some(room) = room.get_mut(..joined.words()) else {
+        return Err(Refusal::new(83, 0));
+    };
+    joined.write(room);
+    Ok(joined.words())
 }

@@ -78,6 +78,26 @@ impl<'a> Rows<'a> {
         Some(Rows { tags, values })
     }
 
+    /// The rows up to the first with this tag, and those from it on.
+    pub(crate) fn split_before(self, tag: u16) -> (Rows<'a>, Rows<'a>) {
+        let found = self.tags.iter().position(|&other| other == tag);
+        let row = found.unwrap_or(self.tags.len());
+        let (front_tags, tags) = self.tags.split_at(row);
+        let (front_values, values) = self.values.split_at(row);
+        let front = Rows {
+            tags: front_tags,
+            values: front_values,
+        };
+        (front, Rows { tags, values })
+    }
+
+    /// The first row and the others, if there are any.
+    pub(crate) fn split_first(self) -> Option<((u16, u16), Rows<'a>)> {
+        let (&tag, tags) = self.tags.split_first()?;
+        let (&value, values) = self.values.split_first()?;
+        Some(((tag, value), Rows { tags, values }))
+    }
+
     pub(crate) fn iter(self) -> impl Iterator<Item = (u16, u16)> + 'a {
         self.tags.iter().copied().zip(self.values.iter().copied())
     }
