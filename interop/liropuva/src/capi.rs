@@ -55,6 +55,18 @@ unsafe extern "C" {
         room_words: usize,
         answer: *mut [u32; 2],
     );
+
+    fn hgn_join(
+        shop: *const u16,
+        shop_words: usize,
+        first: *const u16,
+        first_words: usize,
+        second: *const u16,
+        second_words: usize,
+        room: *mut u16,
+        room_words: usize,
+        answer: *mut [u32; 2],
+    );
 }
 
 fn answer([number, place]: [u32; 2]) -> Answer {
@@ -146,6 +158,27 @@ pub(crate) fn search(shop: &[u16], order: &[u16], depth: u32, room: &mut [u16]) 
             order.as_ptr(),
             order.len(),
             depth,
+            room.as_mut_ptr(),
+            room.len(),
+            &mut cells,
+        );
+    }
+    answer(cells)
+}
+
+pub(crate) fn join(shop: &[u16], first: &[u16], second: &[u16], room: &mut [u16]) -> Answer {
+    let mut cells = [UNWRITTEN; 2];
+    // SAFETY: the sheets' pointers and lengths are those of live slices, which
+    // are only read; those of `room` are of a slice lent to us alone; `cells`
+    // is two words of our own, borrowed for the call.
+    unsafe {
+        hgn_join(
+            shop.as_ptr(),
+            shop.len(),
+            first.as_ptr(),
+            first.len(),
+            second.as_ptr(),
+            second.len(),
             room.as_mut_ptr(),
             room.len(),
             &mut cells,

@@ -2,7 +2,8 @@
 //!
 //! The planner reads three kinds of sheet, all slices of 16-bit words: a shop
 //! (actions and methods), an order (goals) and a trace (the derivation of a
-//! plan). It checks sheets, replays a trace and searches for a short one.
+//! plan). It checks sheets, replays a trace, searches for a short one, and writes
+//! the join of two orders as a sheet.
 //!
 //! Each call asks its questions in a fixed order and stops at the first no.
 //! That question's number, and the row, method or step where it was asked, is
@@ -53,6 +54,45 @@
 //! );
 //! # Ok::<(), liropuva::Refusal>(())
 //! ```
+//!
+//! # Two trays, one night
+//!
+//! ```
+//! # let shop = [
+//! #     4, 4, 1, 28, //
+//! #     1, 5, 6, 1, 3, 5, 1, 3, 6, 5, 1, 3, 5, // tags of the actions
+//! #     2, 7, 8, 9, 7, 11, 8, 9, 7, 11, 8, 9, 7, 8, 9, // tags of the method
+//! #     3, 0, 2, 10, 0, 1, 3, 1, 0, 2, 10, 2, 3, // values of the actions
+//! #     0, 0, 0, 0, 0, 0, 0, 1, 0, 1, 0, 2, 0, 0, 3, // values of the method
+//! # ];
+//! // The shop is that of the long core. The first order wants the pith half
+//! // scanned, the second a core clamped at bark.
+//! let first = [4, 1, 3, 7, 8, 9, 0, 0, 3];
+//! let second = [4, 1, 3, 7, 8, 9, 0, 0, 0];
+//!
+//! let mut room = [0; liropuva::JOIN_ROOM];
+//! let joined = liropuva::join(&shop, &first, &second, &mut room)?;
+//! let order = joined.sheet(&room);
+//! // Two goals in seven rows: the second's goal comes after the first's, 11 0.
+//! assert_eq!(order[..3], [4, 2, 7]);
+//! assert_eq!(order[3..10], [7, 8, 9, 7, 11, 8, 9]);
+//! assert_eq!(order[10..], [0, 0, 3, 0, 0, 0, 0]);
+//!
+//! // The trace of the long core, then the clamp and the second goal's release.
+//! let mut trace = [0; 1 + 2 * 12];
+//! trace[..13].copy_from_slice(&[12, 256, 1, 0, 2, 0, 3, 0, 4, 0, 0, 1, 0]);
+//! let mut plan = [0; 12];
+//! let accepted = liropuva::replay(&shop, order, &trace, &mut plan)?;
+//! assert_eq!(accepted.plan(&plan), [1, 2, 3, 4, 1]);
+//! assert_eq!(accepted.cost, 29);
+//!
+//! let refusal = liropuva::join(&shop, &first, &second, &mut room[..16]).unwrap_err();
+//! assert_eq!(
+//!     refusal.to_string(),
+//!     "refused with 83: the answer is no to \"is there room for the joined sheet?\""
+//! );
+//! # Ok::<(), liropuva::Refusal>(())
+//! ```
 
 #![warn(missing_docs)]
 #![deny(unsafe_op_in_unsafe_fn)]
@@ -71,10 +111,13 @@ pub const PLAN_ROOM: usize = 4096;
 /// The most words that a search can write: a trace of 32 steps.
 pub const SEARCH_ROOM: usize = 65;
 
+/// The most words that a join can write: an order sheet of 4,000 rows.
+pub const JOIN_ROOM: usize = 8003;
+
 /// The atom of a [`ReplayAnswer`] that names none: atoms are below it.
 pub const NO_ATOM: u32 = 256;
 
-/// The answer of a sheet check or a search, as the library gives it.
+/// The answer of a sheet check, a search or a join, as the library gives it.
 #[derive(Clone, Copy, Debug, PartialEq, Eq)]
 pub struct Answer {
     /// The question answered no, or 0.
@@ -168,6 +211,25 @@ impl Found {
     }
 }
 
+/// A joined order that was written.
+#[derive(Clone, Copy, Debug, PartialEq, Eq)]
+pub struct Joined {
+    /// The number of its rows.
+    pub rows: usize,
+}
+
+impl Joined {
+    /// The joined order sheet within the room that was lent to [`join`]. Of
+    /// another room it gives other words.
+    ///
+    /// # Panics
+    ///
+    /// Where the slice is shorter than the sheet.
+    pub fn sheet<'a>(&self, room: &'a [u16]) -> &'a [u16] {
+        &room[..3 + 2 * self.rows]
+    }
+}
+
 /// Checks a shop sheet: questions 1 to 9.
 pub fn check_shop(shop: &[u16]) -> Result<(), Refusal> {
     check_shop_answer(shop).passed().map(|_| ())
@@ -224,6 +286,32 @@ pub fn search(shop: &[u16], order: &[u16], depth: u32, room: &mut [u16]) -> Resu
     })
 }
 
+/// Writes the join of two orders as an order sheet: questions 1 to 9, 11 to 18 of
+/// the first order, 11 to 18 of the second, then 81 to 83.
+///
+/// The join has the first's start rows and goals, then the second's goals, each
+/// of them after all of the first's. The second's start rows are checked and then
+/// dropped. `first` and `second` may be one sheet. A refusal with 11 to 18 can be
+/// of either order: [`check_order`] of the first alone tells which.
+///
+/// More than 64 goals together are refused with 81, more than 4,000 rows that
+/// come out with 82, a `room` too short for the joined sheet with 83.
+/// [`JOIN_ROOM`] words are always enough. The sheet goes into the first words of
+/// `room`; the others are left alone, and so is all of it when the call is
+/// refused.
+pub fn join(
+    shop: &[u16],
+    first: &[u16],
+    second: &[u16],
+    room: &mut [u16],
+) -> Result<Joined, Refusal> {
+    join_answer(shop, first, second, room).passed()?;
+    // The third word of an order sheet is the number of its rows.
+    Ok(Joined {
+        rows: usize::from(room[2]),
+    })
+}
+
 /// [`check_shop`] with the library's own answer.
 pub fn check_shop_answer(shop: &[u16]) -> Answer {
     capi::check_shop(shop)
@@ -247,4 +335,9 @@ pub fn replay_answer(shop: &[u16], order: &[u16], trace: &[u16], plan: &mut [u16
 /// [`search`] with the library's own answer.
 pub fn search_answer(shop: &[u16], order: &[u16], depth: u32, room: &mut [u16]) -> Answer {
     capi::search(shop, order, depth, room)
+}
+
+/// [`join`] with the library's own answer.
+pub fn join_answer(shop: &[u16], first: &[u16], second: &[u16], room: &mut [u16]) -> Answer {
+    capi::join(shop, first, second, room)
 }

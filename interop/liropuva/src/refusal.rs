@@ -16,7 +16,7 @@ pub struct Refusal {
     /// of the first unmet row among the needs of the action or method; for 29
     /// that of the first unmet row of the goal's first alternative, also where
     /// another alternative lacks less. `None` for every other number, so always
-    /// of a check and of a search.
+    /// of a check, of a search and of a join.
     pub unmet: Option<u16>,
 }
 
@@ -41,7 +41,8 @@ pub enum Place {
 pub enum Subject {
     /// The shop sheet, in every call.
     Shop,
-    /// The order sheet, in every call that takes one.
+    /// An order sheet, in every call that takes one; in a join the first, then
+    /// the second.
     Order,
     /// The trace, in every call that takes one.
     Trace,
@@ -49,6 +50,8 @@ pub enum Subject {
     Replay,
     /// Depth, room and result of a search.
     Search,
+    /// Goals, rows and room of a join.
+    Join,
 }
 
 /// A question that a call asks.
@@ -112,6 +115,9 @@ pub const QUESTIONS: &[Question] = questions! {
     41 Search Whole  "is the depth at most 32?"
     42 Search Whole  "is there room for a trace of that depth?"
     43 Search Whole  "is there an accepted trace of at most that many steps?"
+    81 Join   Whole  "have the two orders at most 64 goals together?"
+    82 Join   Whole  "has the joined sheet at most 4,000 rows?"
+    83 Join   Whole  "is there room for the joined sheet?"
 };
 
 impl Refusal {
