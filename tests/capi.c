@@ -13,7 +13,7 @@
 
 /* So many words before and after each room must stay. WORD and BYTE stand in them, and in the rooms before a call. */
 #define KEPT 4
-#define ROOM 40
+#define ROOM HGN_MOST_ORDER_WORDS
 #define WORD 0xA55A
 #define BYTE 0xA5
 
@@ -205,11 +205,131 @@ static void searches(void) {
     same_room("a search of depth UINT32_MAX", trace, 0);
 }
 
+/* The order joined with itself: its second goal comes after its first. */
+static const uint16_t twice[] = {4, 2, 7, 7, 8, 9, 7, 11, 8, 9, 0, 0, 3, 0, 0, 0, 3};
+/* The trace, then the release of the second goal, which holds already. */
+static const uint16_t twice_trace[] = {11, 256, 1, 0, 2, 0, 3, 0, 4, 0, 0, 0, 0, 0, 0, 0, 0, 0, 0, 0, 0, 0, 0};
+/* Three times: the third goal comes after both others. */
+static const uint16_t thrice[] = {4, 3, 12, 7, 8, 9, 7, 11, 8, 9, 7, 11, 11, 8, 9, 0, 0, 3, 0, 0, 0, 3, 0, 0, 1, 0, 3};
+/* Start rows 12 0 and 12 2 before the goal, in the second order, then in the first. */
+static const uint16_t started[] = {4, 1, 5, 12, 12, 7, 8, 9, 0, 2, 0, 0, 3};
+static const uint16_t started_twice[] = {4, 2, 9, 12, 12, 7, 8, 9, 7, 11, 8, 9, 0, 2, 0, 0, 3, 0, 0, 0, 3};
+
+/* The join of these orders with so many words of room. */
+static void joined(const uint16_t *first, size_t first_words, const uint16_t *second, size_t second_words, size_t words) {
+    fresh();
+    hgn_join(SHEET(shop), first, first_words, second, second_words, room + KEPT, words, answer + KEPT);
+}
+
+/* The last join is refused so, and wrote nothing. */
+static void not_joined(const char *name, uint32_t number, uint32_t place) {
+    same_verdict(name, number, place);
+    same_room(name, twice, 0);
+}
+
+static void joins(void) {
+    joined(SHEET(order), SHEET(order), ROOM);
+    same_verdict("an order joined with itself", 0, 0);
+    same_room("an order joined with itself", SHEET(twice));
+
+    joined(SHEET(order), SHEET(order), 17);
+    same_verdict("a join in a room of 3 + 2N words", 0, 0);
+    same_room("a join in a room of 3 + 2N words", SHEET(twice));
+
+    joined(SHEET(order), SHEET(twice), ROOM);
+    same_verdict("an 11 row of the second order", 0, 0);
+    same_room("an 11 row of the second order", SHEET(thrice));
+
+    joined(SHEET(twice), SHEET(order), ROOM);
+    same_verdict("an 11 row of the first order", 0, 0);
+    same_room("an 11 row of the first order", SHEET(thrice));
+
+    joined(SHEET(order), SHEET(started), ROOM);
+    same_verdict("start rows of the second order", 0, 0);
+    same_room("start rows of the second order", SHEET(twice));
+
+    joined(SHEET(started), SHEET(order), ROOM);
+    same_verdict("start rows of the first order", 0, 0);
+    same_room("start rows of the first order", SHEET(started_twice));
+
+    joined(SHEET(order), SHEET(order), 16);
+    not_joined("a join in a room one word short", 83, 0);
+    joined(SHEET(order), SHEET(order), 0);
+    not_joined("a join in no room", 83, 0);
+    joined(SHEET(foreign_atom), order, 0, ROOM);
+    not_joined("two orders that are refused", 15, 2);
+    joined(SHEET(order), SHEET(foreign_atom), ROOM);
+    not_joined("a second order that is refused", 15, 2);
+    joined(SHEET(order), order, 0, ROOM);
+    not_joined("an empty second order", 11, 0);
+    fresh();
+    hgn_join(shop, 0, SHEET(order), SHEET(order), room + KEPT, ROOM, answer + KEPT);
+    not_joined("a join with an empty shop", 1, 0);
+}
+
+/* The trace of both goals is accepted on the sheet that a join wrote. */
+static void joined_replay(void) {
+    const uint32_t accepted[HGN_REPLAY_ANSWER] = {0, 11, 4, 26, HGN_NO_ATOM};
+    uint16_t sheet[sizeof twice / sizeof twice[0]];
+
+    joined(SHEET(order), SHEET(order), ROOM);
+    memcpy(sheet, room + KEPT, sizeof sheet);
+    fresh();
+    hgn_replay(SHEET(shop), SHEET(sheet), SHEET(twice_trace), room + KEPT, ROOM, answer + KEPT, atoms + KEPT);
+    same_answer("the replay of a joined order", accepted, HGN_REPLAY_ANSWER);
+    same_room("the replay of a joined order", SHEET(plan));
+    same_atoms("the replay of a joined order", 1, 4);
+}
+
+/* An order of so many goals without literals, one alternative each; the first has more alternatives, to make so many rows. */
+static size_t plain_order(uint16_t *words, uint16_t goals, uint16_t rows) {
+    uint16_t first_rows = rows - 2 * (goals - 1);
+    memset(words, 0, HGN_MOST_ORDER_WORDS * sizeof words[0]);
+    words[0] = 4;
+    words[1] = goals;
+    words[2] = rows;
+    for (uint16_t i = 0; i < rows; i++)
+        words[3 + i] = i == 0 || (first_rows <= i && (i - first_rows) % 2 == 0) ? 7 : 8;
+    return 3 + 2 * (size_t)rows;
+}
+
+/* Joins at the limits on goals and rows. */
+static void largest_joins(void) {
+    static uint16_t large[HGN_MOST_ORDER_WORDS];
+    static uint16_t wanted[HGN_MOST_ORDER_WORDS];
+    size_t words = plain_order(large, 64, 128);
+    joined(large, words, SHEET(order), ROOM);
+    not_joined("64 goals and one", 81, 0);
+    words = plain_order(large, 33, 66);
+    joined(large, words, large, words, 0);
+    not_joined("66 goals and no room", 81, 0);
+
+    /* One 11 row comes in. */
+    words = plain_order(large, 1, 3997);
+    joined(large, words, SHEET(order), ROOM);
+    not_joined("4,001 rows", 82, 0);
+
+    words = plain_order(large, 1, 3996);
+    memcpy(wanted, large, (3 + 3996) * sizeof wanted[0]);
+    wanted[1] = 2;
+    wanted[2] = 4000;
+    memcpy(wanted + 3 + 3996, twice + 6, 4 * sizeof wanted[0]);
+    wanted[HGN_MOST_ORDER_WORDS - 1] = 3;
+    joined(large, words, SHEET(order), ROOM);
+    same_verdict("4,000 rows", 0, 0);
+    same_room("4,000 rows", wanted, HGN_MOST_ORDER_WORDS);
+    joined(large, words, SHEET(order), ROOM - 1);
+    not_joined("4,000 rows in a room one word short", 83, 0);
+}
+
 int main(void) {
     checks();
     replays();
     unmet();
     searches();
+    joins();
+    joined_replay();
+    largest_joins();
     puts("capi: ok");
     return 0;
 }

@@ -2,23 +2,27 @@
 
 use std::collections::BTreeMap;
 
-use liropuva::{Answer, NO_ATOM, ReplayAnswer};
+use liropuva::{Answer, NO_ATOM, QUESTIONS, ReplayAnswer, Subject};
 use reference::{Atoms, Budget, Refusal, Stopped};
 
+use crate::joins::Joins;
 use crate::random::Random;
 use crate::unmet::Unmet;
+
+/// The question that no input fails: the goal at place 0 is always free.
+pub const NEVER_TOLD: u32 = 27;
 
 /// Words around a lent room that no call may touch.
 const MARGIN: usize = 8;
 
 /// A lent room in the middle of a larger part of memory.
 #[derive(Clone, PartialEq, Eq, Debug)]
-struct Lent {
+pub struct Lent {
     words: Vec<u16>,
 }
 
 impl Lent {
-    fn new(random: &mut Random, room: usize) -> Lent {
+    pub fn new(random: &mut Random, room: usize) -> Lent {
         Lent {
             words: (0..room + 2 * MARGIN).map(|_| random.word()).collect(),
         }
@@ -27,6 +31,11 @@ impl Lent {
     fn room(&mut self) -> &mut [u16] {
         let end = self.words.len() - MARGIN;
         &mut self.words[MARGIN..end]
+    }
+
+    /// The first words of the room.
+    fn first(&self, words: usize) -> &[u16] {
+        &self.words[MARGIN..MARGIN + words]
     }
 
     /// Is all the same but the first `written` words of the room?
@@ -50,17 +59,26 @@ impl Counts {
         self.0.keys().copied()
     }
 
-    fn count(&mut self, number: u32, times: u64) {
+    /// All numbers told but 0 are of questions about these subjects.
+    pub fn assert_asked(&self, subjects: &[Subject]) {
+        for number in self.numbers().filter(|&number| number != 0) {
+            let question = QUESTIONS.iter().find(|asked| asked.number == number);
+            let asked = question.is_some_and(|asked| subjects.contains(&asked.subject));
+            assert!(asked && number != NEVER_TOLD, "{number} was told");
+        }
+    }
+
+    pub fn count(&mut self, number: u32, times: u64) {
         *self.0.entry(number).or_default() += times;
     }
 
-    fn add(&mut self, other: &Counts) {
+    pub(crate) fn add(&mut self, other: &Counts) {
         for (&number, &times) in &other.0 {
             self.count(number, times);
         }
     }
 
-    fn total(&self) -> u64 {
+    pub fn total(&self) -> u64 {
         self.0.values().sum()
     }
 }
@@ -73,6 +91,7 @@ pub struct Tally {
     pub unmet: Unmet,
     pub searches: Counts,
     pub checks: Counts,
+    pub joins: Joins,
     /// How often a search found a trace of so many steps.
     pub found_steps: Counts,
     /// How often a trace of 4,096 steps was accepted.
@@ -85,6 +104,7 @@ impl Tally {
         self.unmet.add(&other.unmet);
         self.searches.add(&other.searches);
         self.checks.add(&other.checks);
+        self.joins.add(&other.joins);
         self.found_steps.add(&other.found_steps);
         self.full_traces += other.full_traces;
     }
@@ -287,4 +307,60 @@ pub fn search(
     );
     tally.searches.count(proved.number, 1);
     Some(proved)
+}
+
+/// What a join left: the answer, and the lent room with the words around it.
+#[derive(Clone, PartialEq, Eq, Debug)]
+pub struct Joined {
+    pub answer: Answer,
+    lent: Lent,
+    words: usize,
+}
+
+impl Joined {
+    /// The joined sheet, if it was written.
+    pub fn sheet(&self) -> Option<&[u16]> {
+        let written = self.answer.number == 0;
+        written.then(|| self.lent.first(self.words))
+    }
+}
+
+/// Compares both sides on the join of two orders in this room.
+pub fn join(
+    tally: &mut Tally,
+    before: &Lent,
+    shop: &[u16],
+    first: &[u16],
+    second: &[u16],
+) -> Joined {
+    let mut proved_lent = before.clone();
+    let mut reference_lent = before.clone();
+    let proved = liropuva::join_answer(shop, first, second, proved_lent.room());
+    let reference = reference::join(shop, first, second, reference_lent.room());
+
+    let input = || format!("shop {shop:?}\nfirst {first:?}\nsecond {second:?}\nroom {before:?}");
+    assert_eq!(
+        proved,
+        answer(reference.map(|_| 0)),
+        "join: proved (left), reference (right)\n{}",
+        input()
+    );
+    assert!(
+        proved_lent == reference_lent,
+        "join: room: proved {proved_lent:?}\nreference {reference_lent:?}\n{}",
+        input()
+    );
+    let words = reference.unwrap_or(0);
+    assert!(
+        proved_lent.same_beyond(before, words),
+        "join: words beyond the joined sheet were written\n{}",
+        input()
+    );
+    let first_passes = reference::check_order(shop, first).is_ok();
+    tally.joins.count(proved.number, first_passes);
+    Joined {
+        answer: proved,
+        lent: proved_lent,
+        words,
+    }
 }

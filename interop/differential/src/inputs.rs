@@ -1,8 +1,10 @@
 //! What the benchmarks and the measure of the stack are run on.
 
+mod joins;
 mod replays;
 mod searches;
 
+pub use joins::joins;
 pub use replays::{checks, replays};
 pub use searches::{deepest, searches};
 
@@ -31,6 +33,14 @@ pub struct Search {
     pub depth: u32,
 }
 
+/// A shop sheet, and two order sheets whose join is written.
+pub struct Join {
+    pub name: String,
+    pub shop: Vec<u16>,
+    pub first: Vec<u16>,
+    pub second: Vec<u16>,
+}
+
 fn check(name: &str, (shop, order): (Shop, Order)) -> Check {
     Check {
         name: format!("check, {name}"),
@@ -57,6 +67,15 @@ fn search(name: &str, (shop, order): (Shop, Order), depth: u32) -> Search {
     }
 }
 
+fn join(name: &str, (shop, first, second): (Shop, Order, Order)) -> Join {
+    Join {
+        name: format!("join, {name}"),
+        shop: shop.words(),
+        first: first.words(),
+        second: second.words(),
+    }
+}
+
 /// An action of cost 1 without needs that makes one atom true.
 fn switch(atom: u16) -> Action {
     Action {
@@ -77,5 +96,15 @@ fn goals(count: u16, atoms: u16, chained: bool) -> Order {
         atoms,
         start: vec![],
         goals: (0..count).map(goal).collect(),
+    }
+}
+
+/// Adds alternatives of up to 20 literals to a node, so many rows in all.
+fn fill(node: &mut Node, mut rows: usize) {
+    while rows > 0 {
+        let literals = (rows - 1).min(20);
+        let alternative = (0..literals as u16).map(|atom| (atom, true)).collect();
+        node.alternatives.push(alternative);
+        rows -= 1 + literals;
     }
 }

@@ -9,6 +9,7 @@ pub mod damage;
 pub mod draft;
 pub mod generate;
 pub mod inputs;
+pub mod joins;
 pub mod random;
 pub mod runner;
 pub mod unmet;

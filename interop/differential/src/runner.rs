@@ -78,3 +78,11 @@ pub fn run_cases(
 pub fn single_seed() -> bool {
     variable(SEED_VARIABLE).is_some()
 }
+
+/// Fails where something came too seldom, unless a single seed was asked for.
+pub fn assert_at_least(what: &str, count: u64, least: u64) {
+    assert!(
+        single_seed() || count >= least,
+        "{what} came {count} times only"
+    );
+}

@@ -4,18 +4,17 @@
 //! `LIROPUVA_ROUNDS=10` runs ten times as many cases; `LIROPUVA_SEED=n` runs
 //! the one case with that seed.
 
-use differential::compare::{self, Counts, Tally};
+use differential::compare::{self, NEVER_TOLD, Tally};
 use differential::draft::{Order, Shop, Step, trace_words};
 use differential::generate::{self, Size};
 use differential::random::Random;
+use differential::runner::assert_at_least;
 use differential::unmet::Way;
 use differential::walk::{self, Habit};
 use differential::{damage, runner};
 use liropuva::{QUESTIONS, Subject};
 use reference::{MAX_GOALS, MAX_ROWS, MAX_STEPS, METHOD_0, Network, Rules, Run};
 
-/// The question that no input fails: the goal at place 0 is always free.
-const NEVER_TOLD: u32 = 27;
 /// The questions whose refusal names an atom. No other's does.
 const NAMES_ATOM: [u32; 2] = [29, 30];
 /// How often a group answers each number that it must reach.
@@ -419,12 +418,13 @@ enum Group {
 }
 
 /// The group that must reach each question of a subject: replays all but a
-/// search's own, searches those.
-fn reached_by(subject: Subject) -> Group {
+/// search's own, searches those. The join's are reached in `tests/joins.rs`.
+fn reached_by(subject: Subject) -> Option<Group> {
     match subject {
-        Subject::Shop | Subject::Order | Subject::Trace => Group::Damage,
-        Subject::Replay => Group::Traces,
-        Subject::Search => Group::Searches,
+        Subject::Shop | Subject::Order | Subject::Trace => Some(Group::Damage),
+        Subject::Replay => Some(Group::Traces),
+        Subject::Search => Some(Group::Searches),
+        Subject::Join => None,
     }
 }
 
@@ -437,12 +437,12 @@ fn run(group: Group, cases: u64, case: fn(&mut Random, &mut Tally)) -> Tally {
     println!("{group:?}: {cases} cases a round, {:.1?}", start.elapsed());
     tally.print();
     use Subject::{Order, Replay, Search, Shop, Trace};
-    assert_asked(&tally.replays, &[Shop, Order, Trace, Replay]);
-    assert_asked(&tally.searches, &[Shop, Order, Search]);
-    assert_asked(&tally.checks, &[Shop, Order, Trace]);
+    tally.replays.assert_asked(&[Shop, Order, Trace, Replay]);
+    tally.searches.assert_asked(&[Shop, Order, Search]);
+    tally.checks.assert_asked(&[Shop, Order, Trace]);
     assert_atoms(&tally);
     for question in QUESTIONS {
-        if reached_by(question.subject) == group && question.number != NEVER_TOLD {
+        if reached_by(question.subject) == Some(group) && question.number != NEVER_TOLD {
             let counts = match question.subject {
                 Search => &tally.searches,
                 _ => &tally.replays,
@@ -457,15 +457,6 @@ fn run(group: Group, cases: u64, case: fn(&mut Random, &mut Tally)) -> Tally {
     tally
 }
 
-/// All numbers told but 0 are of questions about these subjects.
-fn assert_asked(counts: &Counts, subjects: &[Subject]) {
-    for number in counts.numbers().filter(|&number| number != 0) {
-        let question = QUESTIONS.iter().find(|asked| asked.number == number);
-        let asked = question.is_some_and(|asked| subjects.contains(&asked.subject));
-        assert!(asked && number != NEVER_TOLD, "{number} was told");
-    }
-}
-
 /// A replay named an atom exactly if its number is one of those that do. So each
 /// other number came as often without one as it came at all.
 fn assert_atoms(tally: &Tally) {
@@ -474,13 +465,6 @@ fn assert_atoms(tally: &Tally) {
         let named = if NAMES_ATOM.contains(&number) { all } else { 0 };
         assert_eq!(tally.unmet.of(number, Way::Named), named, "of {number}");
     }
-}
-
-fn assert_at_least(what: &str, count: u64, least: u64) {
-    assert!(
-        runner::single_seed() || count >= least,
-        "{what} came {count} times only"
-    );
 }
 
 #[test]

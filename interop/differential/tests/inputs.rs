@@ -1,6 +1,6 @@
 //! The inputs of the benchmarks are what their names say.
 
-use differential::compare::{self, Tally};
+use differential::compare::{self, Lent, Tally};
 use differential::draft::{Step, trace_words};
 use differential::inputs::{self, Search};
 use differential::random::Random;
@@ -51,6 +51,12 @@ fn both_sides_agree_where_the_search_ends_soon() {
         let replayed = compare::replay(&mut tally, &mut random, shop, order, trace, room);
         assert!(replayed.accepted(), "{}", input.name);
     }
+    for input in inputs::joins() {
+        let lent = Lent::new(&mut random, liropuva::JOIN_ROOM);
+        let (shop, first, second) = (&input.shop, &input.first, &input.second);
+        let joined = compare::join(&mut tally, &lent, shop, first, second);
+        assert!(joined.sheet().is_some(), "{}", input.name);
+    }
 }
 
 #[test]
@@ -59,6 +65,25 @@ fn the_sheets_have_the_rows_that_are_said() {
     assert_eq!(sizes("127 methods")[2..], [127, 2_186]);
     assert_eq!(sizes("23 rows")[3], 23);
     assert_eq!(sizes("16 goals, two achievers each")[1], 32);
+}
+
+/// Goals and rows of the first order, of the second, and of their join.
+#[test]
+fn the_joined_orders_have_the_sizes_that_are_said() {
+    let sizes = |name: &str| {
+        let mut joins = inputs::joins().into_iter();
+        let found = joins.find(|input| input.name.contains(name));
+        let input = found.unwrap_or_else(|| panic!("no join is named {name}"));
+        let mut room = [0; liropuva::JOIN_ROOM];
+        let joined = liropuva::join(&input.shop, &input.first, &input.second, &mut room);
+        let joined = joined.expect(name).sheet(&room);
+        [&input.first, &input.second, joined].map(|words| [words[1], words[2]])
+    };
+    let wide = sizes("two orders of 2,000 rows");
+    assert_eq!(wide, [[8, 2_000], [8, 2_000], [16, 4_000]]);
+    // 31 rows of each order are 11 rows; 1,024 come in.
+    let cores = sizes("32 goals each");
+    assert_eq!(cores, [[32, 127], [32, 127], [64, 1_278]]);
 }
 
 /// Core after core: its method, then action and release four times, its release.

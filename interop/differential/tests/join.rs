@@ -3,17 +3,19 @@
 //! are those of front and back together.
 //!
 //! It is asked of the reference model on the join as a network, and of the proved
-//! library wherever the join fits an order sheet.
+//! library on the sheet that its join wrote, wherever the join fits one.
 
 use std::sync::atomic::{AtomicU64, Ordering};
 
-use differential::compare::{self, Replayed, Tally};
+use differential::compare::{self, Lent, Replayed, Tally};
 use differential::draft::{Order, Shop, Step, trace_words};
 use differential::generate::{self, Size};
+use differential::joins::Sizes;
 use differential::random::Random;
 use differential::walk::{self, Habit};
 use differential::{damage, runner};
-use reference::{Accepted, Atoms, MAX_GOALS, MAX_ROWS, MAX_STEPS, Network, Rules, Run, Trace};
+use liropuva::JOIN_ROOM;
+use reference::{Accepted, Atoms, MAX_GOALS, MAX_STEPS, Network, Rules, Run, Trace};
 
 const MISMATCH: &str = "accepted without a cut, or not with one";
 
@@ -28,7 +30,7 @@ static ONLY_TOO_MANY: AtomicU64 = AtomicU64::new(0);
 struct Pair {
     shop_words: Vec<u16>,
     first_words: Vec<u16>,
-    /// The join as a sheet, if it fits one.
+    /// The join as the call wrote it, if it fits a sheet.
     join_words: Option<Vec<u16>>,
     second_draft: Order,
     shop: reference::Shop,
@@ -38,7 +40,7 @@ struct Pair {
 }
 
 impl Pair {
-    fn generate(random: &mut Random) -> Pair {
+    fn generate(random: &mut Random, tally: &mut Tally) -> Pair {
         let (first_goals, second_goals) = goal_counts(random);
         let (shop, first, second);
         if first_goals + second_goals > 20 || random.chance(20) {
@@ -51,23 +53,36 @@ impl Pair {
             first = generate::order(random, shop.atoms, first_goals);
             second = generate::order(random, shop.atoms, second_goals);
         }
-        Pair::new(shop, first, second)
+        Pair::new(random, tally, shop, first, second)
     }
 
-    fn new(shop: Shop, first: Order, second: Order) -> Pair {
-        let join = first.join(&second);
-        let fits =
-            join.goals.len() <= MAX_GOALS && join.sheet().rows.len() <= usize::from(MAX_ROWS);
+    fn new(
+        random: &mut Random,
+        tally: &mut Tally,
+        shop: Shop,
+        first: Order,
+        second: Order,
+    ) -> Pair {
         let shop_words = shop.words();
+        let first_words = first.words();
+        let lent = Lent::new(random, JOIN_ROOM);
+        let written = compare::join(tally, &lent, &shop_words, &first_words, &second.words());
         let shop = reference::Shop::read(&shop_words).expect("a well-formed shop");
-        let read = |order: &Order| Network::read(&shop, &order.words()).expect("well-formed");
-        let (first_network, second_network) = (read(&first), read(&second));
+        let read = |words: &[u16]| Network::read(&shop, words).expect("well-formed");
+        let (first_network, second_network) = (read(&first_words), read(&second.words()));
+        let join = Network::join(&first_network, &second_network);
+        let written = written.sheet();
+        assert!(
+            written.is_none_or(|words| read(words) == join),
+            "the join as a sheet is the join as a network"
+        );
+        assert_eq!(written.is_some(), fits(&first, &second));
         Pair {
-            join: Network::join(&first_network, &second_network),
+            join_words: written.map(<[u16]>::to_vec),
+            join,
             first: first_network,
             second: second_network,
-            first_words: first.words(),
-            join_words: fits.then(|| join.words()),
+            first_words,
             second_draft: second,
             shop_words,
             shop,
@@ -103,6 +118,11 @@ impl Pair {
         };
         (0..=trace.len()).filter_map(cut_accepted).collect()
     }
+}
+
+/// Does the join fit an order sheet?
+fn fits(first: &Order, second: &Order) -> bool {
+    Sizes::of(first, second).number(JOIN_ROOM) == 0
 }
 
 /// Mostly few goals; sometimes about 64 in all, or more.
@@ -237,14 +257,7 @@ fn check_proved(asked: &mut Asked<'_>, join: &[u16], steps: &[Step]) {
 }
 
 fn join_case(random: &mut Random, tally: &mut Tally) {
-    let pair = Pair::generate(random);
-    if let Some(words) = &pair.join_words {
-        let read = Network::read(&pair.shop, words).expect("a well-formed join");
-        assert!(
-            read == pair.join,
-            "the join as a sheet is the join as a network"
-        );
-    }
+    let pair = Pair::generate(random, tally);
     for _ in 0..8 {
         let steps = some_steps(random, &pair);
         check(&pair, random, tally, &steps);
@@ -256,7 +269,7 @@ fn long_join_case(random: &mut Random, tally: &mut Tally) {
     let shop = generate::easy_shop(random);
     let goals = [random.between(0, 20), random.between(0, 50)];
     let [first, second] = goals.map(|goals| generate::easy_order(random, shop.atoms, goals));
-    let pair = Pair::new(shop, first, second);
+    let pair = Pair::new(random, tally, shop, first, second);
     let mut steps = split_walk(random, &pair, 700);
     if random.chance(30) {
         damage::steps(random, &mut steps);
@@ -287,6 +300,7 @@ fn a_trace_is_accepted_on_the_join_exactly_when_there_is_a_cut() {
         long_join_case,
     ));
     tally.print();
+    tally.joins.print();
     let accepted = ACCEPTED.load(Ordering::Relaxed);
     let only_too_many = ONLY_TOO_MANY.load(Ordering::Relaxed);
     println!("accepted on the join: {accepted}; only too many waiting: {only_too_many}");

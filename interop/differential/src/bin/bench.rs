@@ -1,16 +1,16 @@
 //! Times the proved library and the reference model on the same inputs, in one
 //! process.
 //!
-//! The arguments `checks`, `replays` and `searches` choose groups of inputs; any
-//! other word chooses the inputs whose names hold it. Without arguments all are
-//! run.
+//! The arguments `checks`, `replays`, `joins` and `searches` choose groups of
+//! inputs; any other word chooses the inputs whose names hold it. Without
+//! arguments all are run.
 
 use std::hint::black_box;
 use std::process::{Command, ExitCode, Stdio};
 use std::time::{Duration, Instant};
 use std::{env, io, thread};
 
-use differential::inputs::{self, Check, Replay, Search};
+use differential::inputs::{self, Check, Join, Replay, Search};
 use reference::{Budget, Stopped};
 
 const ROUNDS: usize = 30;
@@ -135,6 +135,32 @@ fn bench_replay(input: &Replay) {
     let mut reference = || {
         let room = black_box(&mut other_room[..]);
         let answer = reference::replay(black_box(shop), black_box(order), black_box(trace), room);
+        let _ = black_box(answer);
+    };
+    let [proved, reference] = measure([&mut proved, &mut reference]);
+    print_line(name, proved, reference, (proved, reference));
+}
+
+fn bench_join(input: &Join) {
+    let Join {
+        name,
+        shop,
+        first,
+        second,
+    } = input;
+    let mut room = vec![0; liropuva::JOIN_ROOM];
+    let mut other_room = room.clone();
+    liropuva::join(shop, first, second, &mut room).expect(name);
+    reference::join(shop, first, second, &mut other_room).expect(name);
+    assert_eq!(room, other_room);
+    let mut proved = || {
+        let room = black_box(&mut room[..]);
+        let answer = liropuva::join(black_box(shop), black_box(first), black_box(second), room);
+        let _ = black_box(answer);
+    };
+    let mut reference = || {
+        let room = black_box(&mut other_room[..]);
+        let answer = reference::join(black_box(shop), black_box(first), black_box(second), room);
         let _ = black_box(answer);
     };
     let [proved, reference] = measure([&mut proved, &mut reference]);
@@ -280,7 +306,7 @@ struct Choice {
     words: Vec<String>,
 }
 
-const GROUPS: [&str; 3] = ["checks", "replays", "searches"];
+const GROUPS: [&str; 4] = ["checks", "replays", "joins", "searches"];
 
 impl Choice {
     fn read(arguments: Vec<String>) -> Choice {
@@ -314,8 +340,9 @@ fn main() -> ExitCode {
     let choice = Choice::read(arguments);
     let checks = choice.of("checks", inputs::checks(), |input| &input.name);
     let replays = choice.of("replays", inputs::replays(), |input| &input.name);
+    let joins = choice.of("joins", inputs::joins(), |input| &input.name);
     let searches = choice.of("searches", inputs::searches(), |input| &input.name);
-    let inputs = checks.len() + replays.len() + searches.len();
+    let inputs = checks.len() + replays.len() + joins.len() + searches.len();
     if inputs == 0 {
         eprintln!(
             "no input has such a name; the groups are {}",
@@ -325,10 +352,11 @@ fn main() -> ExitCode {
     }
     print_cells("input", "proved", "reference", "ratio");
     if inputs > searches.len() {
-        println!("checks and replays: proved / reference");
+        println!("checks, replays and joins: proved / reference");
     }
     checks.iter().for_each(bench_check);
     replays.iter().for_each(bench_replay);
+    joins.iter().for_each(bench_join);
     if !searches.is_empty() {
         println!("searches: reference / proved");
     }

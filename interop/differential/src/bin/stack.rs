@@ -87,21 +87,38 @@ const SEARCHES: [&str; 5] = [
     "search, 23 rows, none, D 32",
 ];
 
-fn main() {
+/// Prints how much stack a call uses, beyond what a thread without a call does,
+/// and its answer: number and place.
+fn measure(name: &str, mut call: impl FnMut() -> (u32, u32) + Send) {
     let idle = touched(&mut || {});
-    let print = |name: &str, bytes: usize, (number, place): (u32, u32)| {
-        let bytes = bytes - idle;
-        println!("{name:<48} {bytes:>9} bytes; answered {number} {place}");
-    };
+    let mut told = (u32::MAX, 0);
+    let bytes = touched(&mut || told = call()) - idle;
+    let (number, place) = told;
+    println!("{name:<48} {bytes:>9} bytes; answered {number} {place}");
+}
+
+fn main() {
+    for input in inputs::checks() {
+        measure(&input.name, || {
+            let answer = liropuva::check_order_answer(&input.shop, &input.order);
+            (answer.number, answer.place)
+        });
+    }
     for input in inputs::replays() {
         let mut room = vec![0; input.trace.len()];
-        let mut told = (u32::MAX, 0);
-        let bytes = touched(&mut || {
+        measure(&input.name, || {
             let (shop, order, trace) = (&input.shop, &input.order, &input.trace);
             let answer = liropuva::replay_answer(shop, order, trace, &mut room);
-            told = (answer.number, answer.place);
+            (answer.number, answer.place)
         });
-        print(&input.name, bytes, told);
+    }
+    for input in inputs::joins() {
+        let mut room = vec![0; liropuva::JOIN_ROOM];
+        measure(&input.name, || {
+            let (shop, first, second) = (&input.shop, &input.first, &input.second);
+            let answer = liropuva::join_answer(shop, first, second, &mut room);
+            (answer.number, answer.place)
+        });
     }
     let mut searches = inputs::searches();
     searches.retain(|input| SEARCHES.contains(&input.name.as_str()));
@@ -109,12 +126,10 @@ fn main() {
     searches.push(inputs::deepest());
     for input in searches {
         let mut room = [0; liropuva::SEARCH_ROOM];
-        let mut told = (u32::MAX, 0);
-        let bytes = touched(&mut || {
+        measure(&input.name, || {
             let (shop, order) = (&input.shop, &input.order);
             let answer = liropuva::search_answer(shop, order, input.depth, &mut room);
-            told = (answer.number, answer.place);
+            (answer.number, answer.place)
         });
-        print(&input.name, bytes, told);
     }
 }

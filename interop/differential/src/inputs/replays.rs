@@ -2,9 +2,11 @@
 
 use reference::{MAX_GOALS, MAX_ROWS, MAX_STEPS, METHOD_0};
 
-use super::{Check, Replay, check, goals, replay, switch};
+use super::{Check, Replay, check, fill, goals, replay, switch};
 use crate::cores;
 use crate::draft::{Action, Method, Node, Order, Shop, Step};
+
+const MOST_ROWS: usize = MAX_ROWS as usize;
 
 pub fn checks() -> Vec<Check> {
     vec![check("shop and order of 4,000 rows each", full_sheets())]
@@ -62,26 +64,15 @@ fn full_sheets() -> (Shop, Order) {
         actions: (0..255).map(action).collect(),
         methods: (0..190).map(method).collect(),
     };
-    let rows = shop.sheet().rows.len();
-    fill(&mut shop.methods[0].nodes[0], rows);
+    let missing = MOST_ROWS - shop.sheet().rows.len();
+    fill(&mut shop.methods[0].nodes[0], missing);
     let mut order = goals(64, atoms, false);
     for (n, goal) in order.goals.iter_mut().enumerate() {
         goal.after = (0..n as u16).collect();
     }
-    let rows = order.sheet().rows.len();
-    fill(&mut order.goals[0], rows);
+    let missing = MOST_ROWS - order.sheet().rows.len();
+    fill(&mut order.goals[0], missing);
     (shop, order)
-}
-
-/// Adds alternatives of 20 literals to a node, until there are 4,000 rows.
-fn fill(node: &mut Node, rows: usize) {
-    let mut rows = usize::from(MAX_ROWS).checked_sub(rows).expect("fewer rows");
-    while rows > 0 {
-        let literals = (rows - 1).min(20);
-        let alternative = (0..literals as u16).map(|atom| (atom, true)).collect();
-        node.alternatives.push(alternative);
-        rows -= 1 + literals;
-    }
 }
 
 /// Actions at the goals in turn, from this one on, then each goal's release.
@@ -122,13 +113,13 @@ fn full_replay() -> (Shop, Order, Vec<Step>) {
     shop.actions.truncate(usize::from(reference::MAX_ACTIONS));
     shop.methods.truncate(usize::from(reference::MAX_METHODS));
     shop.methods[0].nodes.insert(0, Node::wanting(&[0], &[]));
-    let rows = shop.sheet().rows.len();
-    fill(&mut shop.methods[0].nodes[0], rows);
+    let missing = MOST_ROWS - shop.sheet().rows.len();
+    fill(&mut shop.methods[0].nodes[0], missing);
     let mut order = goals(goals_wanted, atoms, false);
     for (atom, goal) in (first_atom..).zip(&mut order.goals) {
         goal.alternatives = vec![vec![(atom, true)]];
     }
-    let rows = order.sheet().rows.len();
-    fill(&mut order.goals[0], rows);
+    let missing = MOST_ROWS - order.sheet().rows.len();
+    fill(&mut order.goals[0], missing);
     (shop, order, action_steps(goals_wanted, 1 + first_atom))
 }
