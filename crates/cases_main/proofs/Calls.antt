@@ -7,18 +7,19 @@ use mathlib.Core.List.{List}
 use mathlib.Core.Logic.{_↔_}
 use Rattle.cases_main.specs.Names.{nameOf}
 use Rattle.cases_main.specs.declared.call.Call.{Call}
-use Rattle.cases_main.specs.declared.call.Call.the-variants.{Shop, Order, Trace, Replay, Search, Display}
+use Rattle.cases_main.specs.declared.call.Call.the-variants.{Shop, Order, Trace, Replay, Search, Join, Display}
 
 -- What a test that answered false tells.
 pub differs : {answer : Bool} {P : Type 0} → (answer ≡ true) ↔ P → answer ≡ false → P → ⊥
 differs test left p = let taken = test .1 p in let z : _≡_ {A = ℕ} 0 1 = cc in omega arith
 
 pub of-no-call : {name : List ℕ} → (name ≡ nameOf Shop → ⊥) → (name ≡ nameOf Order → ⊥) → (name ≡ nameOf Trace → ⊥)
-    → (name ≡ nameOf Replay → ⊥) → (name ≡ nameOf Search → ⊥) → (name ≡ nameOf Display → ⊥)
+    → (name ≡ nameOf Replay → ⊥) → (name ≡ nameOf Search → ⊥) → (name ≡ nameOf Join → ⊥) → (name ≡ nameOf Display → ⊥)
     → (call : Call) → name ≡ nameOf call → ⊥
-of-no-call a b c d e f Shop = a
-of-no-call a b c d e f Order = b
-of-no-call a b c d e f Trace = c
-of-no-call a b c d e f Replay = d
-of-no-call a b c d e f Search = e
-of-no-call a b c d e f Display = f
+of-no-call a b c d e f g Shop = a
+of-no-call a b c d e f g Order = b
+of-no-call a b c d e f g Trace = c
+of-no-call a b c d e f g Replay = d
+of-no-call a b c d e f g Search = e
+of-no-call a b c d e f g Join = f
+of-no-call a b c d e f g Display = g

@@ -1,4 +1,5 @@
-// The public calls. A case gives each the parts that it takes; where it takes D, that stands in the trace's place.
+// The public calls. A case gives each the parts that it takes; where it takes D, or a second order, that stands in the trace's place.
+use crate::joined;
 use crate::line;
 use crate::replayed;
 use crate::room;
@@ -17,6 +18,7 @@ pub enum Call {
     Trace,
     Replay,
     Search,
+    Join,
     Display,
 }
 
@@ -45,19 +47,37 @@ impl Call {
         if equals(name, b"search") {
             return Named::Call(Call::Search);
         }
+        if equals(name, b"join") {
+            return Named::Call(Call::Join);
+        }
         if equals(name, b"display") {
             return Named::Call(Call::Display);
         }
         Named::Nothing
     }
 
-    fn write_answer<'a>(self, shop: &'a [u16], order: &'a [u16], trace: &[u16], room: &mut [u16]) {
+    // How many sizes the part in the trace's place begins with.
+    fn third_sizes(self) -> u16 {
+        match self {
+            Call::Join => sheet::ORDER,
+            _ => sheet::TRACE,
+        }
+    }
+
+    fn write_answer<'a>(
+        self,
+        shop: &'a [u16],
+        order: &'a [u16],
+        trace: &'a [u16],
+        room: &mut [u16],
+    ) {
         match self {
             Call::Shop => line::verdict(check_shop(shop)),
             Call::Order => line::verdict(check_order(shop, order)),
             Call::Trace => line::verdict(check_trace(shop, order, trace)),
             Call::Replay => replayed::write(shop, order, trace, room),
             Call::Search => searched::write(shop, order, trace, room),
+            Call::Join => joined::write(shop, order, trace, room),
             Call::Display => stepping::write(shop, order, trace),
         }
     }
@@ -77,11 +97,11 @@ impl Call {
 
     fn run_on_order<'a>(self, shop: &'a [u16], order: &'a [u16], trace: &[u8], room: &[u8]) {
         let mut words = [0u16; sheet::ROOM];
-        let length = sheet::write(&mut words, sheet::TRACE, trace);
+        let length = sheet::write(&mut words, self.third_sizes(), trace);
         self.run_on_trace(shop, order, &words[0..length], room);
     }
 
-    fn run_on_trace<'a>(self, shop: &'a [u16], order: &'a [u16], trace: &[u16], room: &[u8]) {
+    fn run_on_trace<'a>(self, shop: &'a [u16], order: &'a [u16], trace: &'a [u16], room: &[u8]) {
         let mut words = [0u16; room::MOST];
         room::fill(&mut words);
         let length = room::length_of(room);

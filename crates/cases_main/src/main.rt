@@ -3,6 +3,7 @@
 // `CALL: NAME; same | TRACE | ROOM` on the sheets of the last line `with SHOP | ORDER`. The top of `stdin` says it at length.
 mod call;
 mod case;
+mod joined;
 mod line;
 mod replayed;
 mod room;

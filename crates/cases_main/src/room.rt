@@ -101,6 +101,20 @@ pub fn write_list(words: &[u16]) {
     write_none(words.len() == 0);
 }
 
+// The words of a room from `from` on, so many, or none where it has fewer.
+fn part(room: &[u16], from: usize, length: usize) -> &[u16] {
+    if from <= room.len() {
+        if length <= room.len() - from {
+            return &room[from..from + length];
+        }
+    }
+    &room[0..0]
+}
+
+pub fn write_part(room: &[u16], from: usize, length: usize) {
+    write_list(part(room, from, length));
+}
+
 pub fn write_none(is_empty: bool) {
     if is_empty {
         line::text(b" none");

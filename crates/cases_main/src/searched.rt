@@ -11,16 +11,6 @@ ghost use mathlib.Core.Path.{_≡_};
 ghost use lib.ListN.{getD};
 ghost use Rattle.hgn.specs.Search as Search;
 
-// The words of a room from `from` on, so many, or none where it has fewer.
-fn part(room: &[u16], from: usize, length: usize) -> &[u16] {
-    if from <= room.len() {
-        if length <= room.len() - from {
-            return &room[from..from + length];
-        }
-    }
-    &room[0..0]
-}
-
 // The trace of a length in a room's first words, and the words behind it.
 fn write_trace(room: &[u16], length: u16) {
     let count = length as usize;
@@ -28,9 +18,9 @@ fn write_trace(room: &[u16], length: u16) {
     let sizes = TraceSizes::of(room);
     line::number(sizes.steps as u64);
     line::text(b"; moves");
-    room::write_list(part(room, Trace::SIZES, count));
+    room::write_part(room, Trace::SIZES, count);
     line::text(b"; places");
-    room::write_list(part(room, Trace::SIZES + count, count));
+    room::write_part(room, Trace::SIZES + count, count);
     room::write_rest(room, Trace::SIZES + 2 * count);
 }
 

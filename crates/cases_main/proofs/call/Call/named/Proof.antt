@@ -32,9 +32,14 @@ named-spec =
     (λ c κs. search needs)
     -- returns-6
     (λ c. c .before .equals6 .ensures .0 (c .if6 .taken))
+    (λ c. search needs)
+    (λ c κs. search needs)
     -- returns-7
+    (λ c. c .before .equals7 .ensures .0 (c .if7 .taken))
+    -- returns-8
     (λ c.
-    let e5 = c .before .before .before in
+    let e6 = c .before .before .before in
+    let e5 = e6 .before .before .before in
     let e4 = e5 .before .before .before in
     let e3 = e4 .before .before .before in
     let e2 = e3 .before .before .before in
@@ -45,4 +50,5 @@ named-spec =
     (differs (e3 .before .equals3 .ensures) (e3 .if3 .left))
     (differs (e4 .before .equals4 .ensures) (e4 .if4 .left))
     (differs (e5 .before .equals5 .ensures) (e5 .if5 .left))
-    (differs (c .before .equals6 .ensures) (c .if6 .left))))
+    (differs (e6 .before .equals6 .ensures) (e6 .if6 .left))
+    (differs (c .before .equals7 .ensures) (c .if7 .left))))
