@@ -221,6 +221,12 @@ static void joined(const uint16_t *first, size_t first_words, const uint16_t *se
     hgn_join(SHEET(shop), first, first_words, second, second_words, room + KEPT, words, answer + KEPT);
 }
 
+/* The last join wrote this sheet and nothing behind it. */
+static void is_joined(const char *name, const uint16_t *sheet, size_t words) {
+    same_verdict(name, 0, 0);
+    same_room(name, sheet, words);
+}
+
 /* The last join is refused so, and wrote nothing. */
 static void not_joined(const char *name, uint32_t number, uint32_t place) {
     same_verdict(name, number, place);
@@ -229,29 +235,17 @@ static void not_joined(const char *name, uint32_t number, uint32_t place) {
 
 static void joins(void) {
     joined(SHEET(order), SHEET(order), ROOM);
-    same_verdict("an order joined with itself", 0, 0);
-    same_room("an order joined with itself", SHEET(twice));
-
+    is_joined("an order joined with itself", SHEET(twice));
     joined(SHEET(order), SHEET(order), 17);
-    same_verdict("a join in a room of 3 + 2N words", 0, 0);
-    same_room("a join in a room of 3 + 2N words", SHEET(twice));
-
+    is_joined("a join in a room of 3 + 2N words", SHEET(twice));
     joined(SHEET(order), SHEET(twice), ROOM);
-    same_verdict("an 11 row of the second order", 0, 0);
-    same_room("an 11 row of the second order", SHEET(thrice));
-
+    is_joined("an 11 row of the second order", SHEET(thrice));
     joined(SHEET(twice), SHEET(order), ROOM);
-    same_verdict("an 11 row of the first order", 0, 0);
-    same_room("an 11 row of the first order", SHEET(thrice));
-
+    is_joined("an 11 row of the first order", SHEET(thrice));
     joined(SHEET(order), SHEET(started), ROOM);
-    same_verdict("start rows of the second order", 0, 0);
-    same_room("start rows of the second order", SHEET(twice));
-
+    is_joined("start rows of the second order", SHEET(twice));
     joined(SHEET(started), SHEET(order), ROOM);
-    same_verdict("start rows of the first order", 0, 0);
-    same_room("start rows of the first order", SHEET(started_twice));
-
+    is_joined("start rows of the first order", SHEET(started_twice));
     joined(SHEET(order), SHEET(order), 16);
     not_joined("a join in a room one word short", 83, 0);
     joined(SHEET(order), SHEET(order), 0);
@@ -316,8 +310,7 @@ static void largest_joins(void) {
     memcpy(wanted + 3 + 3996, twice + 6, 4 * sizeof wanted[0]);
     wanted[HGN_MOST_ORDER_WORDS - 1] = 3;
     joined(large, words, SHEET(order), ROOM);
-    same_verdict("4,000 rows", 0, 0);
-    same_room("4,000 rows", wanted, HGN_MOST_ORDER_WORDS);
+    is_joined("4,000 rows", wanted, HGN_MOST_ORDER_WORDS);
     joined(large, words, SHEET(order), ROOM - 1);
     not_joined("4,000 rows in a room one word short", 83, 0);
 }
