@@ -1,6 +1,6 @@
 -- The demands as hgn proves them, of the call's answer and room. Assumes nothing.
 use Prim.Native.Nat.{ℕ}
-use mathlib.Core.Path.{_≡_, sym, ap, _∙_}
+use mathlib.Core.Path.{sym, ap, _∙_}
 use mathlib.Core.List.{List}
 use Rattle.hgn.specs.Lent.{Lent}
 use Rattle.hgn.proofs.Demands.{promised}

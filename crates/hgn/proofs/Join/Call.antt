@@ -2,7 +2,7 @@
 use Prim.Native.Nat.{ℕ, suc, _+_, _*_, _≤_, _<_}
 use native.Mathlib.Omega.{arith}
 use native.Mathlib.Nat.{mul-comm}
-use mathlib.Core.Path.{_≡_, refl, sym, ap, ap₂, _∙_, subst}
+use mathlib.Core.Path.{_≡_, refl, sym, ap, ap₂, _∙_}
 use mathlib.Core.Bool.{Bool, true, false}
 use mathlib.Core.Logic.{_≢_}
 use mathlib.Core.List.{List, [], _∷_, _++_}
@@ -22,11 +22,11 @@ use Rattle.hgn.specs.JoinSheet.{joinedRows, joinedWords, sheetQuestions,
 use Rattle.hgn.specs.Replay.{rulesOf}
 use Rattle.hgn.specs.Written.{orderRows, orderWords}
 use Rattle.hgn.specs.Shop as Shop
-use Rattle.hgn.specs.Demands.{by, BothPass, IsJoin, JoinNumbers, JoinedIsJoin, RefusedJoins, SameJoins, EitherGrouping, JoinAnswers}
+use Rattle.hgn.specs.Demands.{by, BothPass, JoinedIsJoin, RefusedJoins, SameJoins, EitherGrouping, JoinAnswers}
 use Rattle.hgn.proofs.Questions.FirstNo.{Numbers, numbers-append, refused-number, refused≢passed, append-passed, append-refused, passed-append}
 use Rattle.hgn.proofs.Questions.Numbers.{of-order, order-numbers, not-zero}
 use Rattle.hgn.proofs.Questions.Lent.{asking-refused, asking-passed, lent-answers}
-use Rattle.hgn.proofs.Sheets.Passed.{shop-of-order, order-passed}
+use Rattle.hgn.proofs.Sheets.Passed.{order-passed}
 use Rattle.hgn.proofs.Sheets.Readback.{words-length}
 use Rattle.hgn.proofs.Sheets.Written.{order-length}
 use Rattle.hgn.proofs.Join.Rows.{join-length, joined-goals, joined-rows, joined-words}
@@ -96,10 +96,31 @@ module _ (shop first second : List ℕ) where
     unfolding joinQuestions
     sizes-asked h = append-passed (sheetQuestions shop first second) _ (sheets-pass h)
 
+    -- A refused call tells the first no of its questions; one of the sheets' is that of the order that was asked.
+    module _ (c : Lent (List ℕ)) (e : c ≡ writeJoin shop first second room) where
+      told : (f : Failure) → firstNo questions ≡ refused f → c .refusal ≡ f .refusal
+      unfolding writeJoin writing unwritten
+      told f r = ap (λ (d : Lent (List ℕ)). d .refusal) (e ∙ asking-refused questions room _ f r)
+
+      sheets-refused : (f : Failure) → firstNo (sheetQuestions shop first second) ≡ refused f → c .refusal ≡ f .refusal
+      unfolding joinQuestions
+      sheets-refused f r = told f (append-refused (sheetQuestions shop first second) _ f r)
+
+      first-refused : (f : Failure) → checkOrder shop first ≡ refused f → c .refusal ≡ f .refusal
+      unfolding checkOrder
+      first-refused f r = sheets-refused f (append-refused (shopQuestions shop ++ orderQuestions shop first) (orderQuestions shop second) f r)
+
+      second-refused : checkOrder shop first ≡ passed → (f : Failure) → checkOrder shop second ≡ refused f → c .refusal ≡ f .refusal
+      unfolding checkOrder
+      second-refused p f r =
+          let shops = passed-append (shopQuestions shop) (orderQuestions shop first) p .0 in
+          sheets-refused f
+          (append-passed (shopQuestions shop ++ orderQuestions shop first) (orderQuestions shop second) p
+          ∙ sym (append-passed (shopQuestions shop) (orderQuestions shop second) shops) ∙ r)
+
     -- Why the call answers so.
     pub data Because (c : Lent (List ℕ)) : Type 0 where
-      of-sheets : (f : Failure) → firstNo (sheetQuestions shop first second) ≡ refused f → c .refusal ≡ f .refusal
-          → c .refusal .number ≢ 0 → c .refusal .number < 81 → ¬ BothPass shop first second → Because c
+      of-sheets : c .refusal .number ≢ 0 → c .refusal .number < 81 → ¬ BothPass shop first second → Because c
       of-goals : BothPass shop first second → mostGoals < goals → c .refusal ≡ by 81 → Because c
       of-rows : BothPass shop first second → goals ≤ mostGoals → mostRows < rows → c .refusal ≡ by 82 → Because c
       of-room : BothPass shop first second → goals ≤ mostGoals → rows ≤ mostRows → length room < sizeWords + 2 * rows → c .refusal ≡ by 83
@@ -108,18 +129,15 @@ module _ (shop first second : List ℕ) where
           → c .room ≡ overwritten (joinedWords first second) room → Because c
 
     because : (c : Lent (List ℕ)) → c ≡ writeJoin shop first second room → Because c
-    unfolding writeJoin writing unwritten firstNo joinQuestions
+    unfolding writeJoin writing firstNo
     because c e = go (firstNo (sheetQuestions shop first second)) refl
       where
-        told : (q : Failure) → firstNo questions ≡ refused q → c .refusal ≡ q .refusal
-        told q f = ap (λ (d : Lent (List ℕ)). d .refusal) (e ∙ asking-refused questions room _ q f)
-
         sized : BothPass shop first second → (x : Bool) → leb goals mostGoals ≡ x → (y : Bool) → leb rows mostRows ≡ y
             → (z : Bool) → leb (sizeWords + 2 * rows) (length room) ≡ z → Because c
-        sized h false p y q z r = of-goals h (leb-false _ _ p) (told ((81 asks false) .failure) (sizes-asked h ∙ rw p))
-        sized h true p false q z r = of-rows h (leb-true _ _ p) (leb-false _ _ q) (told ((82 asks false) .failure) (sizes-asked h ∙ rw (p, q)))
+        sized h false p y q z r = of-goals h (leb-false _ _ p) (told c e ((81 asks false) .failure) (sizes-asked h ∙ rw p))
+        sized h true p false q z r = of-rows h (leb-true _ _ p) (leb-false _ _ q) (told c e ((82 asks false) .failure) (sizes-asked h ∙ rw (p, q)))
         sized h true p true q false r =
-            of-room h (leb-true _ _ p) (leb-true _ _ q) (leb-false _ _ r) (told ((83 asks false) .failure) (sizes-asked h ∙ rw (p, q, r)))
+            of-room h (leb-true _ _ p) (leb-true _ _ q) (leb-false _ _ r) (told c e ((83 asks false) .failure) (sizes-asked h ∙ rw (p, q, r)))
         sized h true p true q true r =
             let is = e ∙ asking-passed questions room _ (sizes-asked h ∙ rw (p, q, r)) in
             of-nothing h (leb-true _ _ p) (leb-true _ _ q) (leb-true _ _ r) (ap (λ (d : Lent (List ℕ)). d .refusal) is)
@@ -128,11 +146,10 @@ module _ (shop first second : List ℕ) where
         go : (v : Verdict) → firstNo (sheetQuestions shop first second) ≡ v → Because c
         go passed f = sized (both-pass f) (leb goals mostGoals) refl (leb rows mostRows) refl (leb (sizeWords + 2 * rows) (length room)) refl
         go (refused q) f =
-            let n = told q (append-refused (sheetQuestions shop first second) _ q f) in
-            let m = number-of n in
+            let m = number-of (sheets-refused c e q f) in
             let z = refused-number (λ k a. k ≢ 0) (sheetQuestions shop first second) (sheets-numbers (λ k a. k ≢ 0) not-zero) q f in
             let l = refused-number (λ k a. k < 81) (sheetQuestions shop first second) (sheets-numbers (λ k a. k < 81) (λ k l. omega arith)) q f in
-            of-sheets q f n (rw m z) (rw m l) (λ h. refused≢passed (sym f ∙ sheets-pass h))
+            of-sheets (rw m z) (rw m l) (λ h. refused≢passed (sym f ∙ sheets-pass h))
 
 -- The sheet that stands first in a room that was written.
 
@@ -155,8 +172,6 @@ sheet-in first second room =
 -- The call has written.
 pub record Wrote (shop first second room : List ℕ) (c : Lent (List ℕ)) : Type 0 where
   pub both : BothPass shop first second
-  pub few-goals : length (order first .goals) + length (order second .goals) ≤ mostGoals
-  pub few-rows : length (joinedRows first second) ≤ mostRows
   pub enough : sizeWords + 2 * length (joinedRows first second) ≤ length room
   pub left : c .room ≡ overwritten (joinedWords first second) room
   pub sheet : sheetIn (c .room) ≡ joinedWords first second
@@ -187,7 +202,7 @@ pub wrote : (shop first second room : List ℕ) (c : Lent (List ℕ)) → c ≡ 
 wrote shop first second room c e z = go (because shop first second room c e)
   where
     go : Because shop first second room c → Wrote shop first second room c
-    go (of-sheets f q r n l h) = absurd (n z)
+    go (of-sheets n l h) = absurd (n z)
     go (of-goals h g n) = absurd (omega (arith, number-of n))
     go (of-rows h g r n) = absurd (omega (arith, number-of n))
     go (of-room h g r l n) = absurd (omega (arith, number-of n))
@@ -195,8 +210,6 @@ wrote shop first second room c e z = go (because shop first second room c e)
         let few : length (order first .goals) + length (order second .goals) ≤ mostGoals = omega (arith, goals-are shop first second h) in
         record {
           both = h;
-          few-goals = few;
-          few-rows = r;
           enough = l;
           left = w;
           sheet = ap sheetIn w ∙ sheet-in first second room;
@@ -219,29 +232,8 @@ joined-is-join shop first second room c e z =
           ap length (w .left) ∙ omega (arith, length-append words (drop (length words) room), length-drop (length words) room, words-sized first second, w .enough);
     }
 
--- A refusal of the sheets is that of the order that was asked.
-
-module _ (shop first second room : List ℕ) (c : Lent (List ℕ)) (e : c ≡ writeJoin shop first second room) where
-  sheets-refused : (f : Failure) → firstNo (sheetQuestions shop first second) ≡ refused f → c .refusal ≡ f .refusal
-  unfolding writeJoin writing unwritten joinQuestions
-  sheets-refused f r =
-      ap (λ (d : Lent (List ℕ)). d .refusal)
-      (e ∙ asking-refused (joinQuestions shop first second room) room _ f (append-refused (sheetQuestions shop first second) _ f r))
-
-  first-refused : (f : Failure) → checkOrder shop first ≡ refused f → c .refusal ≡ f .refusal
-  unfolding checkOrder
-  first-refused f r = sheets-refused f (append-refused (shopQuestions shop ++ orderQuestions shop first) (orderQuestions shop second) f r)
-
-  second-refused : checkOrder shop first ≡ passed → (f : Failure) → checkOrder shop second ≡ refused f → c .refusal ≡ f .refusal
-  unfolding checkOrder
-  second-refused p f r =
-      let shops = passed-append (shopQuestions shop) (orderQuestions shop first) p .0 in
-      sheets-refused f
-      (append-passed (shopQuestions shop ++ orderQuestions shop first) (orderQuestions shop second) p
-      ∙ sym (append-passed (shopQuestions shop) (orderQuestions shop second) shops) ∙ r)
-
 told-81 : (shop first second room : List ℕ) (c : Lent (List ℕ)) → Because shop first second room c → c .refusal .number ≡ 81 → c .refusal ≡ by 81
-told-81 shop first second room c (of-sheets f q r n l h) z = absurd (omega arith)
+told-81 shop first second room c (of-sheets n l h) z = absurd (omega arith)
 told-81 shop first second room c (of-goals h g n) z = n
 told-81 shop first second room c (of-rows h g r n) z = absurd (omega (arith, number-of n))
 told-81 shop first second room c (of-room h g r l n) z = absurd (omega (arith, number-of n))
@@ -256,56 +248,56 @@ module _ (shop first second room : List ℕ) (c : Lent (List ℕ)) (rows : ℕ)
   few = length (order first .goals) + length (order second .goals)
 
   to-81 : Because shop first second room c → c .refusal ≡ by 81 → Both × (64 < few)
-  to-81 (of-sheets f q r n l h) z = absurd (omega (arith, number-of z))
+  to-81 (of-sheets n l h) z = absurd (omega (arith, number-of z))
   to-81 (of-goals h g n) z = (h, omega (arith, goals-are shop first second h))
   to-81 (of-rows h g r n) z = absurd (omega (arith, number-of n, number-of z))
   to-81 (of-room h g r l n) z = absurd (omega (arith, number-of n, number-of z))
   to-81 (of-nothing h g r l n w) z = absurd (omega (arith, number-of n, number-of z))
 
   from-81 : Because shop first second room c → Both × (64 < few) → c .refusal ≡ by 81
-  from-81 (of-sheets f q r n l h) z = absurd (h (z .0))
+  from-81 (of-sheets n l h) z = absurd (h (z .0))
   from-81 (of-goals h g n) z = n
   from-81 (of-rows h g r n) z = absurd (omega (arith, goals-are shop first second h, z .1))
   from-81 (of-room h g r l n) z = absurd (omega (arith, goals-are shop first second h, z .1))
   from-81 (of-nothing h g r l n w) z = absurd (omega (arith, goals-are shop first second h, z .1))
 
   to-82 : Because shop first second room c → c .refusal ≡ by 82 → Both × (few ≤ 64) × (4000 < rows)
-  to-82 (of-sheets f q r n l h) z = absurd (omega (arith, number-of z))
+  to-82 (of-sheets n l h) z = absurd (omega (arith, number-of z))
   to-82 (of-goals h g n) z = absurd (omega (arith, number-of n, number-of z))
   to-82 (of-rows h g r n) z = (h, omega (arith, goals-are shop first second h), omega (arith, rows-are shop first second h rows k))
   to-82 (of-room h g r l n) z = absurd (omega (arith, number-of n, number-of z))
   to-82 (of-nothing h g r l n w) z = absurd (omega (arith, number-of n, number-of z))
 
   from-82 : Because shop first second room c → Both × (few ≤ 64) × (4000 < rows) → c .refusal ≡ by 82
-  from-82 (of-sheets f q r n l h) z = absurd (h (z .0))
+  from-82 (of-sheets n l h) z = absurd (h (z .0))
   from-82 (of-goals h g n) z = absurd (omega (arith, goals-are shop first second h, z .1))
   from-82 (of-rows h g r n) z = n
   from-82 (of-room h g r l n) z = absurd (omega (arith, rows-are shop first second h rows k, z .2))
   from-82 (of-nothing h g r l n w) z = absurd (omega (arith, rows-are shop first second h rows k, z .2))
 
   to-83 : Because shop first second room c → c .refusal ≡ by 83 → Both × (few ≤ 64) × (rows ≤ 4000) × (length room < 3 + 2 * rows)
-  to-83 (of-sheets f q r n l h) z = absurd (omega (arith, number-of z))
+  to-83 (of-sheets n l h) z = absurd (omega (arith, number-of z))
   to-83 (of-goals h g n) z = absurd (omega (arith, number-of n, number-of z))
   to-83 (of-rows h g r n) z = absurd (omega (arith, number-of n, number-of z))
   to-83 (of-room h g r l n) z = let e = rows-are shop first second h rows k in (h, omega (arith, goals-are shop first second h), omega (arith, e), omega (arith, e))
   to-83 (of-nothing h g r l n w) z = absurd (omega (arith, number-of n, number-of z))
 
   from-83 : Because shop first second room c → Both × (few ≤ 64) × (rows ≤ 4000) × (length room < 3 + 2 * rows) → c .refusal ≡ by 83
-  from-83 (of-sheets f q r n l h) z = absurd (h (z .0))
+  from-83 (of-sheets n l h) z = absurd (h (z .0))
   from-83 (of-goals h g n) z = absurd (omega (arith, goals-are shop first second h, z .1))
   from-83 (of-rows h g r n) z = absurd (omega (arith, rows-are shop first second h rows k, z .2))
   from-83 (of-room h g r l n) z = n
   from-83 (of-nothing h g r l n w) z = absurd (omega (arith, rows-are shop first second h rows k, z .3))
 
   to-0 : Because shop first second room c → c .refusal ≡ by 0 → Both × (few ≤ 64) × (rows ≤ 4000) × (3 + 2 * rows ≤ length room)
-  to-0 (of-sheets f q r n l h) z = absurd (n (number-of z))
+  to-0 (of-sheets n l h) z = absurd (n (number-of z))
   to-0 (of-goals h g n) z = absurd (omega (arith, number-of n, number-of z))
   to-0 (of-rows h g r n) z = absurd (omega (arith, number-of n, number-of z))
   to-0 (of-room h g r l n) z = absurd (omega (arith, number-of n, number-of z))
   to-0 (of-nothing h g r l n w) z = let e = rows-are shop first second h rows k in (h, omega (arith, goals-are shop first second h), omega (arith, e), omega (arith, e))
 
   from-0 : Because shop first second room c → Both × (few ≤ 64) × (rows ≤ 4000) × (3 + 2 * rows ≤ length room) → c .refusal ≡ by 0
-  from-0 (of-sheets f q r n l h) z = absurd (h (z .0))
+  from-0 (of-sheets n l h) z = absurd (h (z .0))
   from-0 (of-goals h g n) z = absurd (omega (arith, goals-are shop first second h, z .1))
   from-0 (of-rows h g r n) z = absurd (omega (arith, rows-are shop first second h rows k, z .2))
   from-0 (of-room h g r l n) z = absurd (omega (arith, rows-are shop first second h rows k, z .3))

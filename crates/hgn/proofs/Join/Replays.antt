@@ -7,7 +7,7 @@ use mathlib.Core.Logic.{_↔_}
 use mathlib.Core.List.{List, _++_}
 use mathlib.Core.Option.{none}
 use lib.Dec.{eqb}
-use lib.ListN.{length, take, drop, replicate, length-append, length-map, length-replicate}
+use lib.ListN.{length, take, drop, replicate, length-append, length-replicate}
 use borrow.Author.Tests.{eqb-true, eqb-false}
 use Rattle.hgn.specs.Questions.{passed}
 use Rattle.hgn.specs.Meaning.{Order}
@@ -16,7 +16,7 @@ use Rattle.hgn.specs.State.{State, mostAtoms}
 use Rattle.hgn.specs.Network.{Waiting, goalsOf, enter, mostWaiting}
 use Rattle.hgn.specs.Network as Network
 use Rattle.hgn.specs.Run.{problemOf, problemFrom, startOf, limited, run}
-use Rattle.hgn.specs.Join.{raised, join}
+use Rattle.hgn.specs.Join.{join}
 use Rattle.hgn.specs.Shop.{domain}
 use Rattle.hgn.specs.Order.{order, rowCount, checkOrder}
 use Rattle.hgn.specs.Trace.{stepCount, stepsOf, checkTrace}
@@ -36,7 +36,7 @@ use Rattle.hgn.proofs.Join.Counted.{counted-start, counted-runs, runs-c
 use Rattle.hgn.proofs.Sheets.Trace.{frontOf, backOf, front-passes, front-steps, back-passes, back-steps, steps-length}
 use Rattle.hgn.proofs.Sheets.Starts.{from-state, last-fits}
 use Rattle.hgn.proofs.Join.Rows.{joined-goals}
-use Rattle.hgn.proofs.Join.Call.{joined-is-join, Wrote, wrote}
+use Rattle.hgn.proofs.Join.Call.{joined-is-join, wrote}
 use Rattle.hgn.proofs.Join.Sheets.{joined-means, joined-passes, surely-few}
 use Rattle.hgn.proofs.Run.Replay.{demand-2}
 use Rattle.hgn.proofs.Join.Cut.{demand-3}

@@ -1,7 +1,7 @@
 -- The joined sheet passes the order check and means the join, where it has few enough rows and goals. Assumes nothing.
 use Prim.Native.Nat.{ℕ, _+_, _*_, _≤_}
 use native.Mathlib.Omega.{arith}
-use mathlib.Core.Path.{_≡_, ap, sym, _∙_}
+use mathlib.Core.Path.{_≡_, ap, _∙_}
 use mathlib.Core.List.{List}
 use lib.ListN.{length}
 use Rattle.hgn.specs.Rows.{mostRows}
@@ -11,7 +11,6 @@ use Rattle.hgn.specs.Questions.{passed}
 use Rattle.hgn.specs.Shop as Shop
 use Rattle.hgn.specs.Order.{order, rowCount, checkOrder}
 use Rattle.hgn.specs.JoinSheet.{joinedRows, joinedWords}
-use Rattle.hgn.specs.Written.{orderRows}
 use Rattle.hgn.proofs.Sheets.Passed.{shop-of-order}
 use Rattle.hgn.proofs.Sheets.Rules.{network-join}
 use Rattle.hgn.proofs.Sheets.Written.{order-rules, order-length, words-order, words-pass-order}

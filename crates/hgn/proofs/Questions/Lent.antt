@@ -1,5 +1,4 @@
 -- A call with lent room answers by the first no of its questions, and a refusal leaves the room as it was. Assumes nothing.
-use Prim.Native.Nat.{ℕ}
 use mathlib.Core.Path.{_≡_, refl, sym, ap, _∙_, subst}
 use mathlib.Core.Logic.{_≢_}
 use mathlib.Core.List.{List}

@@ -3,7 +3,6 @@ use Prim.Native.Nat.{ℕ}
 use native.Mathlib.Omega.{arith}
 use mathlib.Core.Path.{refl, sym, subst, _∙_}
 use borrow.Author.Needs.{needs}
-use Rattle.hgn.specs.Order as Order
 use Rattle.hgn.proofs.Sheets.Checked.{order-count, order-goals}
 use Rattle.sheet_index.specs.Tables.{Walk}
 use Rattle.sheet_check.proofs.Orders.{order-few}
