@@ -4,6 +4,8 @@ use mathlib.Core.List.{zipWith, flatten, flatMap, headD}
 use Rattle.hgn.specs.Cases.{MarkedCases}
 use Rattle.hgn.specs.QuestionCases.{repeated, QuestionCases}
 use Rattle.hgn.specs.JoinCases.{JoinCases}
+use Rattle.hgn.specs.ListingCases.{ListingCases}
+use Rattle.hgn.specs.Listing.{linesAt, linesOf, linesIn}
 use Rattle.hgn.specs.Lists.{any, all, filter, takeUntil, dropUntil, splitAtEach, elem, range, firstSome}
 use Rattle.hgn.specs.Tag.{shopFollow, orderFollow, contextAfter, begins, leastHere, advance, inRange, rises}
 use Rattle.hgn.specs.Questions.{allAt, firstNo}
@@ -11,7 +13,7 @@ use Rattle.hgn.specs.Rows.{rowsOf, rowWords, valuesTagged}
 use Rattle.hgn.specs.RowQuestions.{rowQuestions, positionAfter}
 use Rattle.hgn.specs.Meaning.{literals, nodeOf, nodesOf, firstValue, actionOf, methodOf, startsWith, domainOf, orderOf, lastOf, goalOf, lastAfterAll, networkOf}
 use Rattle.hgn.specs.State.{emptyState, assign, literalHolds, allHold, formulaHolds, unmet, unmetGoal, atomsOf, γ, contains, relevant}
-use Rattle.hgn.specs.Network.{sameOrigin, sameName, isParent, comesAfter, free, anyFree, enter, goalsOf, released, decomposed}
+use Rattle.hgn.specs.Network.{stepNumber, methodNumber, aboveFrom, sameOrigin, sameName, isParent, comesAfter, free, anyFree, enter, goalsOf, released, decomposed}
 use Rattle.hgn.specs.Run as Run
 use Rattle.hgn.specs.Shop as Shop
 use Rattle.hgn.specs.Order as Order
@@ -50,3 +52,11 @@ unfolding any all takeUntil dropUntil splitAtEach elem shopFollow orderFollow co
     Order.orderEndQuestions Order.orderQuestions zipWith flatMap range filter raisedRow joinedRows joinedWords joinQuestions writeJoin unwritten overwritten asking
     writing repeated
 join-cases = refl
+
+pub listing-cases : ListingCases
+unfolding any all filter takeUntil splitAtEach elem range rowsOf valuesTagged literals nodeOf nodesOf firstValue actionOf methodOf startsWith domainOf orderOf lastOf goalOf
+    lastAfterAll networkOf emptyState assign literalHolds allHold formulaHolds unmet unmetGoal atomsOf γ contains relevant stepNumber methodNumber aboveFrom
+    sameOrigin sameName isParent comesAfter free anyFree enter goalsOf released decomposed Run.moveOf Run.known Run.moved Run.ownQuestions Run.stepQuestions
+    Run.deedOf Run.stepped Run.prepend Run.endQuestions Run.ended Run.runBy Run.startOf allAt firstNo Shop.shopRows Shop.domain Order.orderRows Order.order
+    stepsOf linesAt linesOf linesIn zipWith flatten headD
+listing-cases = refl

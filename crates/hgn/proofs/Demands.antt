@@ -5,10 +5,14 @@ use Rattle.hgn.specs.Readings.{Read}
 use Rattle.hgn.proofs.Questions.Answers.{demand-1}
 use Rattle.hgn.proofs.Run.Replay.{demand-2}
 use Rattle.hgn.proofs.Search.Search.{demand-2-of-search, search-agrees-with-replay}
-use Rattle.hgn.proofs.Join.Cut.{demand-3}
+use Rattle.hgn.proofs.Join.Rule.{demand-3}
 use Rattle.hgn.proofs.Join.Replays.{demand-3-of-replays, join-rule-of-sheet, demand-3-of-calls}
 use Rattle.hgn.proofs.Join.Call.{joined-is-join, either-grouping, refused-joins}
 use Rattle.hgn.proofs.Run.Unmet.{unmet-is-named, unmet-is-first, tests-tell-first}
+use Rattle.hgn.proofs.Listing.Origins.{origins-are-true}
+use Rattle.hgn.proofs.Listing.Parents.{parents-wait}
+use Rattle.hgn.proofs.Listing.Lines.{one-line-a-goal}
+use Rattle.hgn.proofs.Listing.Truths.{lines-of-runs, numbers-are-02s}
 use Rattle.hgn.proofs.Sheets.Written.{sheets-are-written}
 use Rattle.hgn.proofs.Run.Derivation.{accepted-is-derivation}
 use Rattle.hgn.proofs.Questions.Order.{questions-in-order}
@@ -37,6 +41,11 @@ promised = record {
   demand-3-of-calls = demand-3-of-calls;
   either-grouping = either-grouping;
   refused-joins = refused-joins;
+  origins-are-true = origins-are-true;
+  parents-wait = parents-wait;
+  one-line-a-goal = one-line-a-goal;
+  lines-of-runs = lines-of-runs;
+  numbers-are-02s = numbers-are-02s;
 }
 
 pub read : Read

@@ -5,6 +5,9 @@ pub mod Front
 pub mod Renaming
 pub mod Cut
 pub mod Counted
+pub mod Lines
+pub mod Moments
+pub mod Rule
 pub mod Rows
 pub mod Sheets
 pub mod Groups

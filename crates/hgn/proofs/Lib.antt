@@ -4,6 +4,7 @@ pub mod Questions
 pub mod Sheets
 pub mod Run
 pub mod Network
+pub mod Listing
 pub mod Join
 pub mod Search
 pub mod Cases

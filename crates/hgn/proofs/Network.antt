@@ -3,6 +3,7 @@ pub mod Waiting
 pub mod Places
 pub mod Names
 pub mod Rooted
+pub mod Above
 pub mod Reached
 pub mod Precedes
 pub mod Formed

@@ -7,7 +7,7 @@ use lib.ListN.{length}
 use Rattle.hgn.specs.Lists.{At}
 use Rattle.hgn.specs.Meaning.{Action, Method, networkOf}
 use Rattle.hgn.specs.State.{State, EntailsAll, Satisfies, γ}
-use Rattle.hgn.specs.Network.{Waiting, from-step, released, decomposed}
+use Rattle.hgn.specs.Network.{Waiting, used, released, decomposed}
 use Rattle.hgn.specs.Run.{Step, firstMethod, Problem, Rules}
 
 -- The listed pairs: `q` comes after `p` of its network, by an 11 row or by rule; or because `p` came with a method used at `q`.
@@ -54,5 +54,5 @@ pub data Derivation (r : Rules) : ℕ → Problem → List Step → List ℕ →
   decomposition : {n : ℕ} {P : Problem} {last : State} {xs : List Step} {plan : List ℕ} {t : Waiting} {p : ℕ} {m : Method} {k : ℕ}
       → Stands r P p t
       → At (r .domain .methods) k m → EntailsAll (P .state) (m .needs) → r .MayUse m (t .formula)
-      → Derivation r (suc n) (record { state = P .state; waiting = decomposed (P .waiting) p (from-step n) (networkOf m) }) xs plan last
+      → Derivation r (suc n) (record { state = P .state; waiting = decomposed (P .waiting) p (used n k) (networkOf m) }) xs plan last
       → Derivation r n P (record { move = firstMethod + k; place = p } ∷ xs) plan last

@@ -1,19 +1,23 @@
--- What is proved of the calls: the three demands of document 00, Req 01 and Req 02 of document 02, each as a named type with its words quoted
--- above it. Demands 1 and 2, 3 of replays, and the requests speak of whatever answer and room at exit equal the definition's, and the contract
--- of each call says that its answer and room do; demand 3 itself speaks of orders and states. What the definitions say, read a second time, stands in
+-- What is proved of the calls: the three demands of document 00, Req 01 to Req 03 of document 02, each as a named type with its words quoted
+-- above it. Demands 1 and 2, 3 of replays, and Req 01 and Req 02 speak of whatever answer and room at exit equal the definition's, and the contract
+-- of each call says that its answer and room do; demand 3 itself speaks of orders and states, Req 03 of waiting goals and of what runs do. What the definitions say, read a second time, stands in
 -- `Readings`. Values stand in `proofs/`, gathered in `proofs/Demands.antt`.
-use Prim.Native.Nat.{ℕ, _+_, _*_, _≤_, _<_}
+use Prim.Native.Nat.{ℕ, suc, _+_, _*_, _≤_, _<_}
 use mathlib.Core.Path.{_≡_}
 use mathlib.Core.Logic.{_↔_, _⊎_, _≢_}
-use mathlib.Core.List.{List, [], _∷_, _++_}
-use lib.ListN.{length, take, drop}
-use Rattle.hgn.specs.Lists.{At}
+use mathlib.Core.List.{List, [], _∷_, _++_, map, List·Memᴰ}
+use mathlib.Core.Option.{none, some}
+use lib.Dec.{eqb}
+use lib.ListN.{length, take, drop, replicate}
+use Rattle.hgn.specs.Lists.{At, filter}
 use Rattle.hgn.specs.Questions.{Refusal, Failure, withoutAtom, Question, passed, refused, answered, FirstNo, AllYes}
-use Rattle.hgn.specs.Meaning.{Literal, Formula, Domain, Order}
+use Rattle.hgn.specs.Meaning.{Literal, Formula, Node, Method, Domain, Order, networkOf}
 use Rattle.hgn.specs.Rows.{mostRows}
 use Rattle.hgn.specs.State.{State, mostAtoms, noAtom, emptyState, Entails, EntailsAll, Satisfies, unmet, unmetGoal}
-use Rattle.hgn.specs.Network.{mostWaiting, goalAt}
-use Rattle.hgn.specs.Run.{Step, Move, release, act, use-method, moveOf, actionAt, methodAt, Problem, problemOf, startOf, Rules, costOf}
+use Rattle.hgn.specs.Network as Network
+use Rattle.hgn.specs.Network.{mostWaiting, Source, used, stepNumber, methodNumber, Waiting, goalAt, goalsAbove}
+use Rattle.hgn.specs.Run.{Step, Move, release, act, use-method, moveOf, actionAt, methodAt, Problem, problemFrom, problemOf, startOf, Rules, costOf}
+use Rattle.hgn.specs.Run.{Leaving, Deed, releases, uses, taken, stepped, stopped, accepted, run}
 use Rattle.hgn.specs.Join.{Accepted, Cut, join}
 use Rattle.hgn.specs.Shop.{atomCount, domain, checkShop, shopQuestions}
 use Rattle.hgn.specs.Order.{order, rowCount, checkOrder, orderQuestions}
@@ -22,6 +26,7 @@ use Rattle.hgn.specs.Replay.{rulesOf, Answer, Replayed, replay, replayQu
 use Rattle.hgn.specs.Lent.{Lent}
 use Rattle.hgn.specs.Search.{Earlier, mostDepth, Searched, search, searchQuestions}
 use Rattle.hgn.specs.JoinSheet.{joinQuestions, writeJoin, sheetIn}
+use Rattle.hgn.specs.Listing.{Line, linesOf, linesIn, laterSource, laterLine}
 use Rattle.hgn.specs.Written.{orderWords}
 use Rattle.hgn.specs.Definition1.{Derivation}
 use Rattle.hgn.specs.Readings.{Reached}
@@ -194,6 +199,23 @@ SearchAgreesWithReplay = (shop sheet : List ℕ) (depth : ℕ) (room : List ℕ)
 abbrev pub OnJoin : Rules → Order → Order → List Step → List ℕ → State → Type 0
 OnJoin r a b xs plan last = Accepted r (problemOf (join a b)) xs plan last
 
+-- What each waiting goal carries, in the order of places.
+abbrev pub sources : List Waiting → List Source
+sources w = map (λ q. q .source) w
+
+-- What the waiting goals carry on `o`, the join of `a` and `b`, with a cut at `c` and this state between (document 02, Req 03): in the front
+-- what those of the front carry, then the order for each goal of the second; in the back what the back's own carry, with the cut added to their steps.
+pub record Carried (r : Rules) (o a b : Order) (xs : List Step) (c : ℕ) (between : State) : Type 0 where
+  pub in-front : (i : ℕ) → i ≤ c → (Q : Problem) → Reached r (problemOf a) (take i xs) Q
+      → (P : Problem) × Reached r (problemOf o) (take i xs) P
+      × (sources (P .waiting) ≡ sources (Q .waiting) ++ replicate (length (b .goals)) Network.order)
+  pub in-back : (i : ℕ) (Q : Problem) → Reached r (problemFrom between b) (take i (drop c xs)) Q
+      → (P : Problem) × Reached r (problemOf o) (take (c + i) xs) P × (sources (P .waiting) ≡ map (laterSource c) (sources (Q .waiting)))
+
+-- The listing of the parts of a cut at `c`: the front's lines, then the back's, with the cut added to their steps.
+abbrev pub oneBehindOther : ℕ → List Line → List Line → List Line
+oneBehindOther c front back = front ++ map (laterLine c) back
+
 pub record JoinRule (r : Rules) (a b : Order) (xs : List Step) : Type 0 where
   pub accepted-iff : ((plan : List ℕ) × (last : State) × OnJoin r a b xs plan last) ↔ ((c : ℕ) × Cut r a b xs c)
   pub one-cut : (c e : ℕ) → Cut r a b xs c → Cut r a b xs e → c ≡ e
@@ -201,6 +223,10 @@ pub record JoinRule (r : Rules) (a b : Order) (xs : List Step) : Type 0 where
       → OnJoin r a b xs plan last ↔ ((plan ≡ cut .frontPlan ++ cut .backPlan) × (last ≡ cut .last))
   pub cost : (c : ℕ) (cut : Cut r a b xs c) (plan : List ℕ) (last : State) → OnJoin r a b xs plan last
       → costOf (r .domain) plan ≡ costOf (r .domain) (cut .frontPlan) + costOf (r .domain) (cut .backPlan)
+  -- Document 02, Req 03: "For a joined order, step numbers in the back of a trace count from the whole trace's first step".
+  pub lines : (c : ℕ) (cut : Cut r a b xs c) (plan : List ℕ) (last : State) (on : OnJoin r a b xs plan last)
+      → linesOf 0 (on .deeds) ≡ oneBehindOther c (linesOf 0 (cut .front .deeds)) (linesOf 0 (cut .back .deeds))
+  pub carried : (c : ℕ) (cut : Cut r a b xs c) → Carried r (join a b) a b xs c (cut .between)
   -- "So where the two orders have more than 64 goals together, no trace is accepted on the join and no cut will do."
   pub too-many : mostWaiting < length (a .goals) + length (b .goals)
       → ((plan : List ℕ) (last : State) → ¬ OnJoin r a b xs plan last) × ((c : ℕ) → ¬ Cut r a b xs c)
@@ -269,6 +295,9 @@ pub record OneAfterOther {shop first second trace : List ℕ} {c : ℕ}
   pub count : k .call .result .answer .count ≡ p .front .result .answer .count + p .back .result .answer .count
   pub cost : k .call .result .answer .cost ≡ p .front .result .answer .cost + p .back .result .answer .cost
   pub state : k .call .result .answer .state ≡ p .back .result .answer .state
+  pub lines : linesIn shop (k .joined) trace
+      ≡ oneBehindOther c (linesIn shop first (p .frontTrace)) (linesIn shop (p .backOrder) (p .backTrace))
+  pub carried : Carried (rulesOf shop) (order (k .joined)) (order first) (order second) (stepsOf trace) c (p .front .result .answer .state)
 
 -- The cut of these sheets. It asks for no replay of the parts.
 abbrev pub CutAt : List ℕ → List ℕ → List ℕ → List ℕ → ℕ → Type 0
@@ -395,7 +424,8 @@ JoinedIsJoin = (shop first second room : List ℕ) (c : Lent (List ℕ)) → c �
 
 -- The join rule of the written sheet, through the replay: it accepts exactly where the trace passes, the room has at least L words and there is
 -- a cut of the two orders as they were given; there is one at most; plan, cost and last state are the front's and the back's, as demand 3 says.
-pub record RuleOfSheet (shop first second trace room : List ℕ) (e : Replayed) : Type 0 where
+-- So are the lines of its listing, and what its waiting goals carry.
+pub record RuleOfSheet (shop first second joined trace room : List ℕ) (e : Replayed) : Type 0 where
   pub accepted-iff : (e .answer .refusal .number ≡ 0)
       ↔ (InputsPass shop first trace room × ((c : ℕ) × CutAt shop first second trace c))
   pub one-cut : (c d : ℕ) → CutAt shop first second trace c → CutAt shop first second trace d → c ≡ d
@@ -403,10 +433,15 @@ pub record RuleOfSheet (shop first second trace room : List ℕ) (e : Replayed) 
       → Accepts shop trace room (cut .frontPlan ++ cut .backPlan) (cut .last) e
   pub cost : InputsPass shop first trace room → (c : ℕ) (cut : CutAt shop first second trace c)
       → e .answer .cost ≡ costOf (domain shop) (cut .frontPlan) + costOf (domain shop) (cut .backPlan)
+  pub lines : (c : ℕ) (cut : CutAt shop first second trace c)
+      → linesIn shop joined trace ≡ oneBehindOther c (linesOf 0 (cut .front .deeds)) (linesOf 0 (cut .back .deeds))
+  pub carried : (c : ℕ) (cut : CutAt shop first second trace c)
+      → Carried (rulesOf shop) (order joined) (order first) (order second) (stepsOf trace) c (cut .between)
 
 abbrev pub JoinRuleOfSheet : Type 0
 JoinRuleOfSheet = (shop first second room : List ℕ) (c : Lent (List ℕ)) → c ≡ writeJoin shop first second room → c .refusal .number ≡ 0
-    → (trace plan : List ℕ) (e : Replayed) → e ≡ replay shop (sheetIn (c .room)) trace plan → RuleOfSheet shop first second trace plan e
+    → (trace plan : List ℕ) (e : Replayed) → e ≡ replay shop (sheetIn (c .room)) trace plan
+    → RuleOfSheet shop first second (sheetIn (c .room)) trace plan e
 
 -- Demand 3 of calls: the written sheet in the place of any sheet that means the join (`Whole`). Replays of the two parts are made as `Parts` says.
 pub record OfWritten (shop first second trace joined : List ℕ) : Type 0 where
@@ -460,7 +495,138 @@ RefusedJoins = (shop first second room : List ℕ) (c : Lent (List ℕ)) → c �
     → (rows : ℕ) → rows + length (order second .start) ≡ rowCount first + rowCount second + length (order first .goals) * length (order second .goals)
     → JoinNumbers shop first second room c (length (order first .goals) + length (order second .goals)) rows
 
--- The three demands, and what Req 01 and Req 02 add.
+-- Document 02, Req 03. "Each waiting goal now carries the method and the step that brought it in; a goal of the order carries 65,535 for both. A
+-- listing program on the same files prints an accepted derivation as an indented tree, one line a goal, in the order of release: two blanks for
+-- each goal above it up to the order's goal, then the step that released it, the step that brought it in and the method's number from 0". What
+-- the program prints is on the page of `listing_main`. The numbers 65,535 are `stepNumber` and `methodNumber` of what a goal carries.
+
+-- A waiting goal is a node of this network, under its number there.
+pub record IsNode (nodes : List Node) (q : Waiting) : Type 0 where
+  pub node : Node
+  pub listed : At nodes (q .name .number) node
+  pub formula : q .formula ≡ node .formula
+  pub after : q .after ≡ node .after
+
+-- Step `k` of these steps used method `m` at the goal that is the parent of `q`, and `q` is one of the method's nodes.
+pub record BroughtIn (r : Rules) (P₀ : Problem) (xs : List Step) (q : Waiting) (k m : ℕ) : Type 0 where
+  pub before : Problem
+  pub reached : Reached r P₀ (take k xs) before
+  pub step : Step
+  pub is-step : At xs k step
+  pub parent : Waiting
+  pub parent-waits : At (before .waiting) (step .place) parent
+  pub behind : Problem
+  pub uses-method : stepped r k before step ≡ taken (uses m parent) behind
+  pub new : ¬ List·Memᴰ q (before .waiting)
+  pub entered : List·Memᴰ q (behind .waiting)
+  pub is-parent : q .parent ≡ some (parent .name)
+  pub method : Method
+  pub is-method : At (r .domain .methods) m method
+  pub is-node : IsNode (networkOf method) q
+
+-- What a waiting goal carries is true: a method and a step brought it in, or it is one of the order's goals and has no parent.
+pub record OriginTrue (r : Rules) (s : State) (o : Order) (xs : List Step) (q : Waiting) : Type 0 where
+  pub by-step : (k m : ℕ) → q .source ≡ used k m → BroughtIn r (problemFrom s o) xs q k m
+  pub by-order : q .source ≡ Network.order → (q .parent ≡ none) × IsNode (o .goals) q
+
+-- So it is on every network that steps lead to, under whatever rules, from whatever order and first state.
+abbrev pub OriginsAreTrue : Type 1
+OriginsAreTrue = (r : Rules) (s : State) (o : Order) (xs : List Step) (P : Problem) → Reached r (problemFrom s o) xs P
+    → (q : Waiting) → List·Memᴰ q (P .waiting) → OriginTrue r s o xs q
+
+-- The parent of the goal at place `i` waits too, behind it, and one goal more stands above the goal than above its parent.
+pub record ParentWaits (w : List Waiting) (i : ℕ) (q : Waiting) : Type 0 where
+  pub place : ℕ
+  pub parent : Waiting
+  pub waits : At w place parent
+  pub behind : i < place
+  pub is-parent : q .parent ≡ some (parent .name)
+  pub one-more : goalsAbove w q ≡ suc (goalsAbove w parent)
+
+-- So it is of every goal that a method brought in; above a goal of the order stands none; at most 63 stand above any.
+pub record ParentsIn (w : List Waiting) : Type 0 where
+  pub of-step : (i : ℕ) (q : Waiting) → At w i q → (k m : ℕ) → q .source ≡ used k m → ParentWaits w i q
+  pub of-order : (q : Waiting) → List·Memᴰ q w → q .source ≡ Network.order → goalsAbove w q ≡ 0
+  pub few : (q : Waiting) → List·Memᴰ q w → goalsAbove w q ≤ 63
+
+abbrev pub ParentsWait : Type 0
+ParentsWait = (shop sheet : List ℕ) → checkOrder shop sheet ≡ passed → (s : State) (xs : List Step) (P : Problem)
+    → Reached (rulesOf shop) (problemFrom s (order sheet)) xs P → ParentsIn (P .waiting)
+
+-- The lines of goals that this step brought in, or with 65,535 the order, by document 02's number.
+abbrev pub broughtAt : ℕ → List Line → List Line
+broughtAt k lines = filter (λ l. eqb (stepNumber (l .source)) k) lines
+
+-- Step `n` used method `m`.
+abbrev pub UsesAt : List ℕ → List ℕ → ℕ → ℕ → Type 0
+UsesAt shop trace n m = (x : Step) × At (stepsOf trace) n x × (moveOf (domain shop) (x .move) ≡ use-method m)
+
+-- Step `n` released this goal, with so many goals above it.
+pub record ReleasedAt (deeds : List Deed) (n : ℕ) (q : Waiting) (above : ℕ) : Type 0 where
+  pub goals : List Leaving
+  pub deed : At deeds n (releases goals)
+  pub among : List·Memᴰ (record { goal = q; above = above }) goals
+
+-- The parent of `q`, which step `n` released, is released later, and has one goal fewer above it.
+pub record ReleasedBefore (deeds : List Deed) (n : ℕ) (q : Waiting) (above : ℕ) : Type 0 where
+  pub parent : Waiting
+  pub is-parent : q .parent ≡ some (parent .name)
+  pub step : ℕ
+  pub over : ℕ
+  pub released-then : ReleasedAt deeds step parent over
+  pub later : n < step
+  pub one-more : above ≡ suc over
+
+-- A line is true: its step released a goal, which waited at the step's place on the network that the steps before it lead to; the line tells
+-- what that goal carries and how many goals stood above it there.
+pub record LineTrue (shop sheet trace : List ℕ) (l : Line) : Type 0 where
+  pub before : Problem
+  pub reached : Reached (rulesOf shop) (problemOf (order sheet)) (take (l .released) (stepsOf trace)) before
+  pub step : Step
+  pub is-step : At (stepsOf trace) (l .released) step
+  pub is-release : moveOf (domain shop) (step .move) ≡ release
+  pub goal : Waiting
+  pub waits : At (before .waiting) (step .place) goal
+  pub source : l .source ≡ goal .source
+  pub above : l .above ≡ goalsAbove (before .waiting) goal
+
+-- A line a goal, of an accepted trace whose steps did these deeds.
+pub record LineEach (shop sheet trace : List ℕ) (deeds : List Deed) : Type 0 where
+  -- As many lines have the order for their origin as it has goals, with 65,535 for the method too.
+  pub of-order : length (broughtAt 65535 (linesOf 0 deeds)) ≡ length (order sheet .goals)
+  pub of-order-number : (l : Line) → List·Memᴰ l (broughtAt 65535 (linesOf 0 deeds)) → methodNumber (l .source) ≡ 65535
+  -- As many lines have a step for their origin as the method used there has nodes, with that method's number; none if it used none.
+  pub of-step : (k m : ℕ) → UsesAt shop trace k m → length (broughtAt k (linesOf 0 deeds)) ≡ length (methodAt (domain shop) m .nodes)
+  pub of-step-number : (k m : ℕ) → UsesAt shop trace k m → (l : Line) → List·Memᴰ l (broughtAt k (linesOf 0 deeds)) → methodNumber (l .source) ≡ m
+  pub of-no-method : (k : ℕ) → k ≢ 65535 → ((m : ℕ) → ¬ UsesAt shop trace k m) → broughtAt k (linesOf 0 deeds) ≡ []
+  -- Each line is true, and each release has one.
+  pub lines-true : (l : Line) → List·Memᴰ l (linesOf 0 deeds) → LineTrue shop sheet trace l
+  pub each-release : (n : ℕ) (x : Step) → At (stepsOf trace) n x → moveOf (domain shop) (x .move) ≡ release
+      → (l : Line) × List·Memᴰ l (linesOf 0 deeds) × (l .released ≡ n)
+  -- Steps of release rise, and a goal's line stands before that of its parent, the goal above it, and has one goal more above it.
+  pub rise : (i j : ℕ) (a b : Line) → At (linesOf 0 deeds) i a → At (linesOf 0 deeds) j b → i < j → a .released < b .released
+  pub before-parent : (n : ℕ) (q : Waiting) (above : ℕ) → ReleasedAt deeds n q above → (k m : ℕ) → q .source ≡ used k m
+      → ReleasedBefore deeds n q above
+
+abbrev pub OneLineAGoal : Type 0
+OneLineAGoal = (shop sheet trace : List ℕ) → checkTrace shop sheet trace ≡ passed
+    → (deeds : List Deed) (last : State) → run (rulesOf shop) 0 (problemOf (order sheet)) (stepsOf trace) ≡ accepted deeds last
+    → LineEach shop sheet trace deeds
+
+-- The listing of an accepted run is its lines; of one that is refused there is no line, whatever it released.
+pub record LinesOfRuns (shop sheet trace : List ℕ) : Type 0 where
+  pub of-accepted : (deeds : List Deed) (last : State) → run (rulesOf shop) 0 (problemOf (order sheet)) (stepsOf trace) ≡ accepted deeds last
+      → linesIn shop sheet trace ≡ linesOf 0 deeds
+  pub of-refused : (f : Failure) → run (rulesOf shop) 0 (problemOf (order sheet)) (stepsOf trace) ≡ stopped f → linesIn shop sheet trace ≡ []
+
+-- "a goal of the order carries 65,535 for both"; every other the step and the method's number from 0.
+pub record NumbersAre02s : Type 0 where
+  pub order-step : stepNumber Network.order ≡ 65535
+  pub order-method : methodNumber Network.order ≡ 65535
+  pub step : (k m : ℕ) → stepNumber (used k m) ≡ k
+  pub method : (k m : ℕ) → methodNumber (used k m) ≡ m
+
+-- The three demands, and what Req 01 to Req 03 add.
 pub record Promised : Type 1 where
   pub demand-1 : Demand1
   pub demand-2 : Demand2
@@ -476,3 +642,8 @@ pub record Promised : Type 1 where
   pub demand-3-of-calls : Demand3OfCalls
   pub either-grouping : EitherGrouping
   pub refused-joins : RefusedJoins
+  pub origins-are-true : OriginsAreTrue
+  pub parents-wait : ParentsWait
+  pub one-line-a-goal : OneLineAGoal
+  pub lines-of-runs : (shop sheet trace : List ℕ) → LinesOfRuns shop sheet trace
+  pub numbers-are-02s : NumbersAre02s

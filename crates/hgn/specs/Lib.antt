@@ -11,7 +11,8 @@ pub mod Questions
 pub mod Network
 pub mod Run
 pub mod Join
--- "Questions, and the number when the answer is no", with the sizes of each sheet from "The three sheets"; `JoinSheet` is Req 02 of document 02.
+-- "Questions, and the number when the answer is no", with the sizes of each sheet from "The three sheets"; `JoinSheet` is Req 02 of document 02,
+-- `Listing` is Req 03.
 pub mod RowQuestions
 pub mod Shop
 pub mod Order
@@ -20,13 +21,15 @@ pub mod Replay
 pub mod Lent
 pub mod Search
 pub mod JoinSheet
+pub mod Listing
 -- "The three sheets" once more, of the meaning: the sheets written out, and their rules as propositions.
 pub mod Written
 -- Source document 000, and the statements that are proved.
 pub mod Definition1
 pub mod Readings
 pub mod Demands
--- "One core of sixty centimetres": the marked cases; and a case for each question but 27; then of Req 02.
+-- "One core of sixty centimetres": the marked cases; and a case for each question but 27; then of Req 02 and Req 03.
 pub mod Cases
 pub mod QuestionCases
 pub mod JoinCases
+pub mod ListingCases

@@ -15,7 +15,7 @@ use Rattle.hgn.specs.Questions as Questions
 use Rattle.hgn.specs.Tag.{mostCost}
 use Rattle.hgn.specs.Meaning.{Literal, Formula, Node, Action, Method, Domain, Order, lastOf, goalOf, networkOf}
 use Rattle.hgn.specs.State.{State, mostAtoms, Entails, allHold, EntailsAll, formulaHolds, γ, opposite, LiteralOf, Relevant}
-use Rattle.hgn.specs.Network.{Origin, Name, Waiting, from-step, free, anyFree, enter, goalsOf, goalAt, released, decomposed}
+use Rattle.hgn.specs.Network.{Name, Source, used, originOf, Waiting, free, anyFree, enter, goalsOf, goalAt, released, decomposed}
 use Rattle.hgn.specs.Network as Network
 use Rattle.hgn.specs.Run.{Step, release, act, use-method, unknown, moveOf, known, actionAt, methodAt, Problem, startOf, problemFrom}
 use Rattle.hgn.specs.Run.{Rules, Decided, strict, moved, Deed, Stepped, refused, taken, stepped, costOf}
@@ -141,9 +141,9 @@ pub record OrderedNetwork (w : List Waiting) : Type 0 where
 -- "T′ = T ∪ T_m and ≺′ = ≺ ∪ ≺_m ∪ {(t_m, t) | t_m ∈ T_m}" (000 prints m ∈ T_m): as it stands of the listed pairs, and of the orders by
 -- the transitive closure of that union.
 
--- The nodes T_m of a method used at goal `t` in step `n`.
-abbrev pub entering : ℕ → Waiting → Method → List Waiting
-entering n t m = enter (from-step n) (some (t .name)) 0 (networkOf m)
+-- The nodes T_m of method `m`, number `i` of its domain, used at goal `t` in step `n`.
+abbrev pub entering : ℕ → ℕ → Waiting → Method → List Waiting
+entering n i t m = enter (used n i) (some (t .name)) 0 (networkOf m)
 
 -- A listed pair between two goals of the list.
 abbrev pub Pair : List Waiting → Waiting → Waiting → Type 0
@@ -158,17 +158,17 @@ pub record Operations (n : ℕ) (w : List Waiting) : Type 0 where
   pub release-nodes : (p : ℕ) (t a : Waiting) → At w p t → List·Memᴰ a (released w p) ↔ (List·Memᴰ a w × (a ≢ t))
   pub release-order : (p : ℕ) (t a b : Waiting) → At w p t → Unconstrained w t → List·Memᴰ a (released w p) → List·Memᴰ b (released w p)
       → Precedes (released w p) a b ↔ Precedes w a b
-  pub method-new : (p : ℕ) (t a : Waiting) (m : Method) → At w p t → List·Memᴰ a (entering n t m) → ¬ List·Memᴰ a w
-  pub method-nodes : (p : ℕ) (t a : Waiting) (m : Method) → At w p t
-      → List·Memᴰ a (decomposed w p (from-step n) (networkOf m)) ↔ (List·Memᴰ a w ⊎ List·Memᴰ a (entering n t m))
-  pub method-pairs : (p : ℕ) (t a b : Waiting) (m : Method) → At w p t
-      → Pair (decomposed w p (from-step n) (networkOf m)) a b
+  pub method-new : (p : ℕ) (t a : Waiting) (i : ℕ) (m : Method) → At w p t → List·Memᴰ a (entering n i t m) → ¬ List·Memᴰ a w
+  pub method-nodes : (p : ℕ) (t a : Waiting) (i : ℕ) (m : Method) → At w p t
+      → List·Memᴰ a (decomposed w p (used n i) (networkOf m)) ↔ (List·Memᴰ a w ⊎ List·Memᴰ a (entering n i t m))
+  pub method-pairs : (p : ℕ) (t a b : Waiting) (i : ℕ) (m : Method) → At w p t
+      → Pair (decomposed w p (used n i) (networkOf m)) a b
       ↔ (Pair w a b
-      ⊎ ((List·Memᴰ a (entering n t m) × List·Memᴰ b (entering n t m) × List·Memᴰ (a .name .number) (b .after))
-      ⊎ (List·Memᴰ a (entering n t m) × (b ≡ t))))
-  pub method-order : (p : ℕ) (t a b : Waiting) (m : Method) → At w p t
-      → Precedes (decomposed w p (from-step n) (networkOf m)) a b
-      ↔ Closure (λ a b. Precedes w a b ⊎ (Precedes (entering n t m) a b ⊎ (List·Memᴰ a (entering n t m) × (b ≡ t)))) a b
+      ⊎ ((List·Memᴰ a (entering n i t m) × List·Memᴰ b (entering n i t m) × List·Memᴰ (a .name .number) (b .after))
+      ⊎ (List·Memᴰ a (entering n i t m) × (b ≡ t))))
+  pub method-order : (p : ℕ) (t a b : Waiting) (i : ℕ) (m : Method) → At w p t
+      → Precedes (decomposed w p (used n i) (networkOf m)) a b
+      ↔ Closure (λ a b. Precedes w a b ⊎ (Precedes (entering n i t m) a b ⊎ (List·Memᴰ a (entering n i t m) × (b ≡ t)))) a b
 
 abbrev pub NetworksAre000s : Type 1
 NetworksAre000s = (shop : List ℕ) (o : Order) → FromSheets shop o
@@ -180,20 +180,20 @@ NetworksAre000s = (shop : List ℕ) (o : Order) → FromSheets shop o
 pub record PlacesAre01s : Type 0 where
   pub goals-as-listed : (o : Order) (k : ℕ) (n : Node) → At (o .goals) k n
       → At (goalsOf o) k
-      (record { name = record { origin = Network.from-order; number = k }; parent = none; after = n .after; formula = n .formula })
+      (record { name = record { origin = Network.from-order; number = k }; source = Network.order; parent = none; after = n .after; formula = n .formula })
   pub goals-alone : (o : Order) → length (goalsOf o) ≡ length (o .goals)
-  pub nodes-as-listed : (o : Origin) (parent : Option Name) (nodes : List Node) (k : ℕ) (n : Node) → At nodes k n
-      → At (enter o parent 0 nodes) k
-      (record { name = record { origin = o; number = k }; parent = parent; after = n .after; formula = n .formula })
+  pub nodes-as-listed : (source : Source) (parent : Option Name) (nodes : List Node) (k : ℕ) (n : Node) → At nodes k n
+      → At (enter source parent 0 nodes) k
+      (record { name = record { origin = originOf source; number = k }; source = source; parent = parent; after = n .after; formula = n .formula })
   pub release-before : (w : List Waiting) (p i : ℕ) (a : Waiting) → i < p → At w i a → At (released w p) i a
   pub release-behind : (w : List Waiting) (p i : ℕ) (a : Waiting) → p ≤ i → At w (suc i) a → At (released w p) i a
-  pub method-before : (w : List Waiting) (p i : ℕ) (o : Origin) (nodes : List Node) (a : Waiting) → i < p → At w i a
-      → At (decomposed w p o nodes) i a
-  pub method-between : (w : List Waiting) (p k : ℕ) (o : Origin) (nodes : List Node) (t : Waiting) (n : Node) → At w p t → At nodes k n
-      → At (decomposed w p o nodes) (p + k)
-      (record { name = record { origin = o; number = k }; parent = some (t .name); after = n .after; formula = n .formula })
-  pub method-behind : (w : List Waiting) (p i : ℕ) (o : Origin) (nodes : List Node) (a : Waiting) → p ≤ i → At w i a
-      → At (decomposed w p o nodes) (length nodes + i) a
+  pub method-before : (w : List Waiting) (p i : ℕ) (source : Source) (nodes : List Node) (a : Waiting) → i < p → At w i a
+      → At (decomposed w p source nodes) i a
+  pub method-between : (w : List Waiting) (p k : ℕ) (source : Source) (nodes : List Node) (t : Waiting) (n : Node) → At w p t → At nodes k n
+      → At (decomposed w p source nodes) (p + k)
+      (record { name = record { origin = originOf source; number = k }; source = source; parent = some (t .name); after = n .after; formula = n .formula })
+  pub method-behind : (w : List Waiting) (p i : ℕ) (source : Source) (nodes : List Node) (a : Waiting) → p ≤ i → At w i a
+      → At (decomposed w p source nodes) (length nodes + i) a
 
 -- 000: "By convention, network(m) has a last node t_g containing goal(m) to ensure that m accomplishes its own goal." Document 01:
 -- "it comes after all the others by rule".

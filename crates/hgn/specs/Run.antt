@@ -1,5 +1,5 @@
 -- Problems, the rules of a run, one step with the questions 25 to 32, and a run with question 33.
--- Document 01, "How a derivation runs" and "Questions"; document 02, Req 01; source document 000, "Solutions to HGN Planning Problems".
+-- Document 01, "How a derivation runs" and "Questions"; document 02, Req 01 and Req 03; source document 000, "Solutions to HGN Planning Problems".
 use Prim.Native.Nat.{ℕ, suc, _+_, _-_}
 use mathlib.Core.Path.{_≡_}
 use mathlib.Core.Bool.{Bool, true, false, cond, _&&_}
@@ -11,7 +11,7 @@ use Rattle.hgn.specs.Questions.{Failure, Question, _asks_, _naming_, fai
 use Rattle.hgn.specs.Questions as Questions
 use Rattle.hgn.specs.Meaning.{Formula, Action, Method, Domain, Order, goalOf, networkOf}
 use Rattle.hgn.specs.State.{State, emptyState, assign, γ, allHold, formulaHolds, unmet, unmetGoal, relevant, Relevant}
-use Rattle.hgn.specs.Network.{Waiting, from-step, free, anyFree, goalsOf, goalAt, released, decomposed}
+use Rattle.hgn.specs.Network.{Waiting, used, free, anyFree, goalsOf, goalAt, goalsAbove, released, decomposed}
 
 -- A planning problem of 000 less its domain: the state, and the goal network as the waiting list.
 pub record Problem : Type 0 where
@@ -113,7 +113,7 @@ strict limit d = record {
 unfoldable pub moved : Domain → ℕ → Problem → ℕ → Move → Problem
 moved d n P p release = record { state = P .state; waiting = released (P .waiting) p }
 moved d n P p (act k) = record { state = γ (P .state) (actionAt d k .effects); waiting = P .waiting }
-moved d n P p (use-method m) = record { state = P .state; waiting = decomposed (P .waiting) p (from-step n) (networkOf (methodAt d m)) }
+moved d n P p (use-method m) = record { state = P .state; waiting = decomposed (P .waiting) p (used n m) (networkOf (methodAt d m)) }
 moved d n P p unknown = P
 
 -- A move's own questions, at the goal of place `p`. "For a release, does it hold? 29. For the others: needs hold? 30. Relevant? 31. For a
@@ -142,14 +142,22 @@ stepQuestions r n P x =
     ∷ 28 asks free (P .waiting) (goalAt (P .waiting) (x .place))
     ∷ ownQuestions r n P (x .place) (moveOf (r .domain) (x .move))
 
+-- A goal that leaves the list, and how many goals stand above it then: what a listing tells of it.
+pub record Leaving : Type 0 where
+  pub goal : Waiting
+  pub above : ℕ
+
 -- What a step that is taken does.
 pub data Deed : Type 0 where
-  releases : List Waiting → Deed  -- these goals leave the list
+  releases : List Leaving → Deed  -- these goals leave the list
   takes : ℕ → Deed  -- this action is taken
   uses : ℕ → Waiting → Deed  -- this method is used at this goal
 
+abbrev pub leaving : List Waiting → Waiting → Leaving
+leaving w q = record { goal = q; above = goalsAbove w q }
+
 unfoldable pub deedOf : Problem → ℕ → Move → Deed
-deedOf P p release = releases (goalAt (P .waiting) p ∷ [])
+deedOf P p release = releases (leaving (P .waiting) (goalAt (P .waiting) p) ∷ [])
 deedOf P p (act k) = takes k
 deedOf P p (use-method m) = uses m (goalAt (P .waiting) p)
 deedOf P p unknown = releases []

@@ -32,7 +32,7 @@ use Rattle.hgn.proofs.Sheets.Written.{order-length}
 use Rattle.hgn.proofs.Join.Rows.{join-length, joined-goals, joined-rows, joined-words}
 use Rattle.hgn.proofs.Join.Sheets.{joined-passes, joined-means}
 use Rattle.hgn.proofs.Join.Groups.{join-groups}
-use Rattle.hgn.proofs.Join.Cut.{demand-3}
+use Rattle.hgn.proofs.Join.Rule.{demand-3}
 
 number-of : {q r : Refusal} → q ≡ r → q .number ≡ r .number
 number-of e = ap (λ (q : Refusal). q .number) e

@@ -55,6 +55,17 @@ module _ (others : ℕ) (r : Rules) (few : others ≤ r .limit) (P : Problem) wh
         (f .rest, t .1 .1, ap₂ (λ (k : ℕ) (U : Problem). run narrow k U xs) (sym (one-more ys x)) (sym same) ∙ f .goes-on),
       )
 
+  -- Steps that lead to a problem lead to it within the smaller limit, if they and some more run within it.
+  pub reached-narrow : {ys : List Step} {Q : Problem} → Reached r P ys Q → (xs : List Step) → Runs narrow 0 P (ys ++ xs)
+      → length (P .waiting) ≤ r .limit - others → Reached narrow P ys Q
+  reached-narrow first xs h l = first
+  reached-narrow (next {xs = ys} {P = Q} {P′ = Q′} {deed = deed} x i e) xs h l =
+      let k = subst (Runs narrow 0 P) (append-assoc ys (x ∷ []) xs) h in
+      let t = narrow-reached i (x ∷ xs) k l in
+      let f = resumes (stepped narrow) (length ys) Q x xs (t .1 .0) (t .1 .1) (t .1 .2) in
+      let same = sym (wider-step r {small = r .limit - others} (omega arith) (length ys) Q x (f .first)) ∙ e in
+      next x (reached-narrow i (x ∷ xs) k l) (f .first ∙ same)
+
   pub runs-counted : (xs : List Step) → Runs narrow 0 P xs → length (P .waiting) + others ≤ r .limit → Counted others r P xs
   runs-counted xs h l i Q j =
       let t = narrow-reached j (drop i xs) (subst (Runs narrow 0 P) (sym (take-append-drop i xs)) h) (omega arith) in

@@ -1,8 +1,8 @@
--- Demand 3: a run on the join splits at exactly one cut, and the parts of a cut make a run on the join. Assumes nothing.
+-- A run on the join splits at exactly one cut, and the parts of a cut make a run on the join. Assumes nothing.
 use Prim.Native.Nat.{ℕ, zero, suc, _+_, _-_, _≤_, _<_, zero-le}
 use native.Mathlib.Omega.{arith}
 use native.Mathlib.Nat.{add-zero, zero-add, add-suc, suc-add, le-of-suc-le-suc, not-suc-le-zero}
-use mathlib.Core.Path.{_≡_, refl, sym, ap, ap₂, _∙_, subst, subst₂}
+use mathlib.Core.Path.{_≡_, refl, sym, ap, ap₂, _∙_, subst}
 use mathlib.Core.Bool.{Bool, true, false}
 use mathlib.Core.List.{List, [], _∷_, _++_, map, map-id, List·Memᴰ, List·Memᴰ·head, List·Memᴰ·tail, Memᴰ·append-left}
 use mathlib.Core.Option.{none}
@@ -11,23 +11,21 @@ use lib.ListN.{length, take, drop, length-append, length-map}
 use borrow.Author.Tests.{ltb-true, ltb-false}
 use Rattle.hgn.specs.Meaning.{Node, Order}
 use Rattle.hgn.specs.State.{State}
-use Rattle.hgn.specs.Network.{from-order, Waiting, free, enter, goalsOf, goalAt, mostWaiting}
-use Rattle.hgn.specs.Run.{Step, Problem, problemOf, problemFrom, startOf, Rules, limited, Deed, planOf, Stepped, refused, taken, stepped, accepted, runBy, run, costOf}
+use Rattle.hgn.specs.Network.{from-order, order, Waiting, free, enter, goalsOf, goalAt}
+use Rattle.hgn.specs.Run.{Step, Problem, problemOf, problemFrom, startOf, Rules, limited, Deed, planOf, Stepped, refused, taken, stepped, accepted, runBy, run}
 use Rattle.hgn.specs.Run as Run
 use Rattle.hgn.specs.Join.{raised, join, Cut}
-use Rattle.hgn.specs.Demands.{OnJoin, JoinRule, Demand3}
-use Rattle.hgn.specs.Order as Sheet
+use Rattle.hgn.specs.Demands.{OnJoin}
 use Rattle.hgn.proofs.Logic.Ranges.{lt-range}
 use Rattle.hgn.proofs.Logic.Tests.{false-not-true}
 use Rattle.hgn.proofs.Run.Steps.{took, refused≢taken, taken-deed, taken-problem}
 use Rattle.hgn.proofs.Join.Embedding.{renamedDeed, carried, step-carried}
-use Rattle.hgn.proofs.Run.Runs.{Resumes, resumes, resumed-accepts, ended-nothing, ended-empty, empty-refuses, accepted-deeds, accepted-state}
+use Rattle.hgn.proofs.Run.Runs.{Resumes, resumes, resumed-accepts, ended-nothing, ended-empty, empty-refuses}
 use Rattle.hgn.proofs.Network.Rooted.{of-order, rooted-step}
 use Rattle.hgn.proofs.Join.Front.{Front, OfFirst, Back, BackGoal, front-embeds, front-blocks}
 use Rattle.hgn.proofs.Join.Renaming.{raised-injective, rename, goals-renamed, later, later-accepted, plan-renamed, run-renamed}
-use Rattle.hgn.proofs.Sheets.Checked.{Numbered, order-numbered, order-goals}
+use Rattle.hgn.proofs.Sheets.Checked.{Numbered}
 use Rattle.hgn.proofs.Network.Waiting.{length-enter, goals-length, goal-mem}
-use Rattle.hgn.proofs.Run.Costs.{cost-append}
 
 -- A place behind the first part is one of the second.
 behind : (w v : List Waiting) (p : ℕ) → length w ≤ p → p < length (w ++ v) → List·Memᴰ (goalAt (w ++ v) p) v
@@ -50,13 +48,13 @@ plan-append (Run.takes k ∷ xs) ys = ap {B = List ℕ} (λ l. k ∷ l) (plan-ap
 plan-append (Run.uses m g ∷ xs) ys = plan-append xs ys
 
 -- A problem with these goals waiting.
-abbrev with : State → List Waiting → Problem
+abbrev pub with : State → List Waiting → Problem
 with s w = record { state = s; waiting = w }
 
 -- The second order's goals `v` behind the first's part; the rules' limit is what they leave of the places.
 module _ (g : ℕ) (r : Rules) (v : List Waiting) (bk : Back g v) where
   -- The rules on the join.
-  abbrev wide : Rules
+  abbrev pub wide : Rules
   wide = limited (r .limit + length v) r
 
   step-in-front : (n : ℕ) (s : State) (q : Waiting) (rest : List Waiting) (x : Step) → Front g (q ∷ rest) → x .place < length (q ∷ rest)
@@ -66,7 +64,7 @@ module _ (g : ℕ) (r : Rules) (v : List Waiting) (bk : Back g v) where
       ∙ step-carried (λ y. y) v n n (with s (q ∷ rest)) (front-embeds g n q rest v fr bk) r x h
 
   -- A step that is taken on the first part is taken on the join.
-  join-step : (n : ℕ) (s : State) (q : Waiting) (rest : List Waiting) (x : Step) (deed : Deed) (P′ : Problem) → Front g (q ∷ rest)
+  pub join-step : (n : ℕ) (s : State) (q : Waiting) (rest : List Waiting) (x : Step) (deed : Deed) (P′ : Problem) → Front g (q ∷ rest)
       → stepped r n (with s (q ∷ rest)) x ≡ taken deed P′
       → stepped wide n (with s ((q ∷ rest) ++ v)) x ≡ taken deed (with (P′ .state) (P′ .waiting ++ v))
   unfolding carried
@@ -179,7 +177,7 @@ module _ (g : ℕ) (r : Rules) (v : List Waiting) (bk : Back g v) where
       ∙ ap (λ (l : List Deed). accepted (l ++ p₂) last) (sym (f .whole))
 
 -- Two fronts of one list that are both accepted are one.
-one-front : (r : Rules) (xs : List Step) (c e n : ℕ) (P : Problem) (p q : List Deed) (t u : State) → c ≤ length xs → e ≤ length xs
+pub one-front : (r : Rules) (xs : List Step) (c e n : ℕ) (P : Problem) (p q : List Deed) (t u : State) → c ≤ length xs → e ≤ length xs
     → run r n P (take c xs) ≡ accepted p t → run r n P (take e xs) ≡ accepted q u → c ≡ e
 unfolding runBy
 one-front r xs zero zero n P p q t u h k a b = refl
@@ -198,25 +196,25 @@ one-front r (x ∷ xs) (suc c) (suc e) n P p q t u h k a b =
     (ap (λ (Q : Problem). run r (suc n) Q (take e xs)) (taken-problem (sym (f .first) ∙ z .first)) ∙ z .goes-on))
 
 -- The join's waiting goals: the first's, then the second's raised by `g`.
-raisedGoals : ℕ → List Node → List Waiting
-raisedGoals g nodes = enter from-order none g (map (raised g) nodes)
+unfoldable pub raisedGoals : ℕ → List Node → List Waiting
+raisedGoals g nodes = enter order none g (map (raised g) nodes)
 
-enter-append : (i : ℕ) (ns ms : List Node) → enter from-order none i (ns ++ ms) ≡ enter from-order none i ns ++ enter from-order none (i + length ns) ms
+enter-append : (i : ℕ) (ns ms : List Node) → enter order none i (ns ++ ms) ≡ enter order none i ns ++ enter order none (i + length ns) ms
 unfolding enter
-enter-append i [] ms = ap (λ (k : ℕ). enter from-order none k ms) (sym (add-zero i))
+enter-append i [] ms = ap (λ (k : ℕ). enter order none k ms) (sym (add-zero i))
 enter-append i (n ∷ ns) ms =
-    ap {B = List Waiting} (λ l. record { name = record { origin = from-order; number = i }; parent = none; after = n .after; formula = n .formula } ∷ l)
+    ap {B = List Waiting} (λ l. record { name = record { origin = from-order; number = i }; source = order; parent = none; after = n .after; formula = n .formula } ∷ l)
     (enter-append (suc i) ns ms
-    ∙ ap {B = List Waiting} (λ k. enter from-order none (suc i) ns ++ enter from-order none k ms) (suc-add i (length ns) ∙ sym (add-suc i (length ns))))
+    ∙ ap {B = List Waiting} (λ k. enter order none (suc i) ns ++ enter order none k ms) (suc-add i (length ns) ∙ sym (add-suc i (length ns))))
 
 -- Nodes that come only after lower ones make a first part.
-front-start : (g i : ℕ) (nodes : List Node) → i + length nodes ≤ g → Numbered i nodes → Front g (enter from-order none i nodes)
+front-start : (g i : ℕ) (nodes : List Node) → i + length nodes ≤ g → Numbered i nodes → Front g (enter order none i nodes)
 unfolding enter
 front-start g i [] h u = tt
 front-start g i (n ∷ nodes) h u =
-    (of-order refl (record { number = omega arith; afters = λ k m. omega (arith, u .0 k m) }), front-start g (suc i) nodes (omega arith) (u .1))
+    (of-order refl refl refl (record { number = omega arith; afters = λ k m. omega (arith, u .0 k m) }), front-start g (suc i) nodes (omega arith) (u .1))
 
-back-start : (g i : ℕ) (nodes : List Node) → g ≤ i → Back g (enter from-order none i (map (raised g) nodes))
+back-start : (g i : ℕ) (nodes : List Node) → g ≤ i → Back g (enter order none i (map (raised g) nodes))
 unfolding enter raised
 back-start g i [] h q m = elim m [ ]
 back-start g i (n ∷ nodes) h q (List·Memᴰ·head e) =
@@ -226,39 +224,39 @@ back-start g i (n ∷ nodes) h q (List·Memᴰ·tail m) = back-start g (suc i) n
 -- The rule, over two orders of which the first's goals come only after lower ones and the second's are within the limit.
 module _ (r : Rules) (a b : Order) (numbered : Numbered 0 (a .goals)) (few : length (b .goals) ≤ r .limit) (xs : List Step) where
   -- The rules with the limit that the second's goals leave.
-  abbrev narrow : Rules
+  abbrev pub narrow : Rules
   narrow = limited (r .limit - length (b .goals)) r
 
-  v : List Waiting
+  unfoldable pub v : List Waiting
   v = raisedGoals (length (a .goals)) (b .goals)
 
-  v-length : length v ≡ length (b .goals)
+  pub v-length : length v ≡ length (b .goals)
   unfolding v raisedGoals
-  v-length = length-enter from-order none (length (a .goals)) (map (raised (length (a .goals))) (b .goals)) ∙ length-map (b .goals) (raised (length (a .goals)))
+  v-length = length-enter order none (length (a .goals)) (map (raised (length (a .goals))) (b .goals)) ∙ length-map (b .goals) (raised (length (a .goals)))
 
-  all-places : (r .limit - length (b .goals)) + length v ≡ r .limit
+  pub all-places : (r .limit - length (b .goals)) + length v ≡ r .limit
   all-places = omega (arith, v-length)
 
   -- The join's rules are the rules themselves.
   on-join : (n : ℕ) (P : Problem) (ys : List Step) → run (limited ((r .limit - length (b .goals)) + length v) narrow) n P ys ≡ run r n P ys
   on-join n P ys = ap (λ (k : ℕ). run (limited k r) n P ys) all-places
 
-  join-goals : goalsOf (join a b) ≡ goalsOf a ++ v
+  pub join-goals : goalsOf (join a b) ≡ goalsOf a ++ v
   unfolding goalsOf join v raisedGoals
   join-goals =
       enter-append 0 (a .goals) (map (raised (length (a .goals))) (b .goals))
-      ∙ ap {B = List Waiting} (λ k. enter from-order none 0 (a .goals) ++ enter from-order none k (map (raised (length (a .goals))) (b .goals))) (zero-add (length (a .goals)))
+      ∙ ap {B = List Waiting} (λ k. enter order none 0 (a .goals) ++ enter order none k (map (raised (length (a .goals))) (b .goals))) (zero-add (length (a .goals)))
 
-  first-part : Front (length (a .goals)) (goalsOf a)
+  pub first-part : Front (length (a .goals)) (goalsOf a)
   unfolding goalsOf
   first-part = front-start (length (a .goals)) 0 (a .goals) (omega arith) numbered
 
-  second-part : Back (length (a .goals)) v
+  pub second-part : Back (length (a .goals)) v
   unfolding v raisedGoals
   second-part = back-start (length (a .goals)) (length (a .goals)) (b .goals) (omega arith)
 
   -- The other names of the second order's run on the join from cut `c`.
-  abbrev names : ℕ → Waiting → Waiting
+  abbrev pub names : ℕ → Waiting → Waiting
   names c = rename (length (a .goals)) (λ k. c + k)
 
   -- The back on the join is the back on the second order, renamed.
@@ -266,14 +264,14 @@ module _ (r : Rules) (a b : Order) (numbered : Numbered 0 (a .goals)) (few : len
   unfolding v raisedGoals goalsOf
   back-runs c s ys =
       ap₂ (λ (k : ℕ) (l : List Waiting). run r k (with s l) ys) (sym (add-zero c))
-      (ap (λ (k : ℕ). enter from-order none k (map (raised (length (a .goals))) (b .goals))) (sym (add-zero (length (a .goals)))) ∙ sym (goals-renamed (length (a .goals)) (λ k. c + k) 0 (b .goals)))
-      ∙ run-renamed (length (a .goals)) (λ k. c + k) (raised-injective c) r ys 0 (λ k h. add-suc c k) (with s (enter from-order none 0 (b .goals)))
+      (ap (λ (k : ℕ). enter order none k (map (raised (length (a .goals))) (b .goals))) (sym (add-zero (length (a .goals)))) ∙ sym (goals-renamed (length (a .goals)) (λ k. c + k) 0 (b .goals)))
+      ∙ run-renamed (length (a .goals)) (λ k. c + k) (raised-injective c) r ys 0 (λ k h. add-suc c k) (with s (enter order none 0 (b .goals)))
 
-  whole-length : length (goalsOf (join a b)) ≡ length (a .goals) + length (b .goals)
+  pub whole-length : length (goalsOf (join a b)) ≡ length (a .goals) + length (b .goals)
   whole-length = ap length join-goals ∙ length-append (goalsOf a) v ∙ ap₂ _+_ (goals-length a) v-length
 
   -- An accepted run on the join has a cut, with these parts.
-  to-cut : (plan : List ℕ) (last : State) → OnJoin r a b xs plan last → (c : ℕ) × Cut r a b xs c
+  pub to-cut : (plan : List ℕ) (last : State) → OnJoin r a b xs plan last → (c : ℕ) × Cut r a b xs c
   unfolding startOf join
   to-cut plan last acc = (
     t .cut,
@@ -308,45 +306,25 @@ module _ (r : Rules) (a b : Order) (numbered : Numbered 0 (a .goals)) (few : len
           × (t .backDeeds ≡ map (renamedDeed (names (t .cut))) own)
       own = later-accepted (names (t .cut)) (λ k. t .cut + k) _ (t .backDeeds) last (sym (back-runs (t .cut) (t .between) (drop (t .cut) xs)) ∙ back-at)
 
-  -- A cut makes an accepted run on the join, with its parts' results.
-  from-cut : (c : ℕ) (k : Cut r a b xs c) → OnJoin r a b xs (k .frontPlan ++ k .backPlan) (k .last)
+  -- A cut makes an accepted run on the join, which does what its parts do.
+  pub cut-runs : (c : ℕ) (k : Cut r a b xs c)
+      → run r 0 (problemOf (join a b)) xs ≡ accepted (k .front .deeds ++ map (renamedDeed (names c)) (k .back .deeds)) (k .last)
   unfolding startOf join later
+  cut-runs c k =
+      ap (λ (l : List Waiting). run r 0 (with (startOf a) l) xs) join-goals
+      ∙ sym (on-join 0 (with (startOf a) (goalsOf a ++ v)) xs)
+      ∙ glue (length (a .goals)) narrow v second-part xs c 0 (startOf a) (goalsOf a) (k .front .deeds) _ (k .between) (k .last)
+      first-part (k .inside) (k .front .runs)
+      (ap (λ (n : ℕ). run (limited ((r .limit - length (b .goals)) + length v) narrow) n (with (k .between) v) (drop c xs)) (zero-add c)
+      ∙ on-join c (with (k .between) v) (drop c xs)
+      ∙ back-runs c (k .between) (drop c xs) ∙ ap (later (names c) (λ i. c + i)) (k .back .runs))
+
+  pub from-cut : (c : ℕ) (k : Cut r a b xs c) → OnJoin r a b xs (k .frontPlan ++ k .backPlan) (k .last)
   from-cut c k = record {
     within = omega (arith, k .front .within, whole-length, goals-length a);
     deeds = k .front .deeds ++ map (renamedDeed (names c)) (k .back .deeds);
-    runs =
-        ap (λ (l : List Waiting). run r 0 (with (startOf a) l) xs) join-goals
-        ∙ sym (on-join 0 (with (startOf a) (goalsOf a ++ v)) xs)
-        ∙ glue (length (a .goals)) narrow v second-part xs c 0 (startOf a) (goalsOf a) (k .front .deeds) _ (k .between) (k .last)
-        first-part (k .inside) (k .front .runs)
-        (ap (λ (n : ℕ). run (limited ((r .limit - length (b .goals)) + length v) narrow) n (with (k .between) v) (drop c xs)) (zero-add c)
-        ∙ on-join c (with (k .between) v) (drop c xs)
-        ∙ back-runs c (k .between) (drop c xs) ∙ ap (later (names c) (λ i. c + i)) (k .back .runs));
+    runs = cut-runs c k;
     plan-is =
         ap₂ {C = List ℕ} (λ l m. l ++ m) (k .front .plan-is) (k .back .plan-is ∙ sym (plan-renamed (names c) (k .back .deeds)))
         ∙ sym (plan-append (k .front .deeds) (map (renamedDeed (names c)) (k .back .deeds)));
   }
-
-  -- An accepted list of steps has one plan and one last state.
-  only : (plan plan′ : List ℕ) (last last′ : State) → OnJoin r a b xs plan last → OnJoin r a b xs plan′ last′ → (plan ≡ plan′) × (last ≡ last′)
-  only plan plan′ last last′ p q =
-      let e = sym (p .runs) ∙ q .runs in
-      (p .plan-is ∙ ap planOf (accepted-deeds e) ∙ sym (q .plan-is), accepted-state e)
-
-  pub join-rule : r .limit ≡ mostWaiting → JoinRule r a b xs
-  join-rule most = record {
-    accepted-iff = ((λ o. to-cut (o .0) (o .1) (o .2)), (λ o. (o .1 .frontPlan ++ o .1 .backPlan, o .1 .last, from-cut (o .0) (o .1))));
-    one-cut = λ c e k m.
-        one-front narrow xs c e 0 (problemOf a) (k .front .deeds) (m .front .deeds) (k .between) (m .between)
-        (k .inside) (m .inside) (k .front .runs) (m .front .runs);
-    results = λ c k plan last. (λ o. only _ _ _ _ o (from-cut c k), λ e. subst₂ (OnJoin r a b xs) (sym (e .0)) (sym (e .1)) (from-cut c k));
-    cost = λ c k plan last o. ap (costOf (r .domain)) (only _ _ _ _ o (from-cut c k) .0) ∙ cost-append (r .domain) (k .frontPlan) (k .backPlan);
-    too-many = λ m. (full m, λ c k. full m _ _ (from-cut c k));
-  }
-    where
-      full : mostWaiting < length (a .goals) + length (b .goals) → (plan : List ℕ) (last : State) → ¬ OnJoin r a b xs plan last
-      full m plan last acc = omega (arith, acc .within, whole-length)
-
-pub demand-3 : Demand3
-demand-3 shop first second h k r most xs =
-    join-rule r (Sheet.order first) (Sheet.order second) (order-numbered shop first h) (omega (arith, order-goals shop second k)) xs most

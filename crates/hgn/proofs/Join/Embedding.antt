@@ -17,9 +17,9 @@ use Rattle.hgn.specs.Questions.{Question, _asks_, _naming_, Verdict, pas
 use Rattle.hgn.specs.Questions as Questions
 use Rattle.hgn.specs.Meaning.{Node, networkOf}
 use Rattle.hgn.specs.State.{formulaHolds, unmetGoal}
-use Rattle.hgn.specs.Network.{Waiting, from-step, comesAfter, free, anyFree, enter, goalAt, noGoal, released, decomposed}
+use Rattle.hgn.specs.Network.{Waiting, used, comesAfter, free, anyFree, enter, goalAt, noGoal, goalsAbove, released, decomposed}
 use Rattle.hgn.specs.Run.{Step, Move, release, act, use-method, unknown, moveOf, actionAt, methodAt, Problem, Rules, limited}
-use Rattle.hgn.specs.Run.{moved, ownQuestions, stepQuestions, Deed, releases, takes, uses, deedOf, Stepped, refused, taken, stepped}
+use Rattle.hgn.specs.Run.{moved, ownQuestions, stepQuestions, Leaving, leaving, Deed, releases, takes, uses, deedOf, Stepped, refused, taken, stepped}
 use Rattle.hgn.proofs.Logic.Tests.{any-append, at-mem, at-of-lt}
 use Rattle.hgn.proofs.Run.Steps.{step-refused, step-passed}
 
@@ -64,15 +64,20 @@ pub record Embeds (f : Waiting → Waiting) (w v : List Waiting) (n n′ : ℕ) 
   pub formula : (q : Waiting) → f q .formula ≡ q .formula
   pub after : (q p : Waiting) → comesAfter (f q) (f p) ≡ comesAfter q p
   -- Goals that enter at step `n` are renamed to those that enter at step `n′`.
-  pub enters : (q : Waiting) (nodes : List Node)
-      → map f (enter (from-step n) (some (q .name)) 0 nodes) ≡ enter (from-step n′) (some (f q .name)) 0 nodes
+  pub enters : (q : Waiting) (m : ℕ) (nodes : List Node)
+      → map f (enter (used n m) (some (q .name)) 0 nodes) ≡ enter (used n′ m) (some (f q .name)) 0 nodes
+  -- As many goals stand above each.
+  pub above : (q : Waiting) → List·Memᴰ q w → goalsAbove (map f w ++ v) (f q) ≡ goalsAbove w q
   -- No goal of `w` comes after one of `v`, and no goal of `v` is free.
   pub apart : (q g : Waiting) → List·Memᴰ q w → List·Memᴰ g v → comesAfter (f q) g ≡ false
   pub blocked : (g : Waiting) → List·Memᴰ g v → free (map f w ++ v) g ≡ false
 
+abbrev pub renamedLeaving : (Waiting → Waiting) → Leaving → Leaving
+renamedLeaving f g = record { goal = f (g .goal); above = g .above }
+
 -- What a step did, renamed.
 unfoldable pub renamedDeed : (Waiting → Waiting) → Deed → Deed
-renamedDeed f (releases gs) = releases (map f gs)
+renamedDeed f (releases gs) = releases (map (renamedLeaving f) gs)
 renamedDeed f (takes k) = takes k
 renamedDeed f (uses m g) = uses m (f g)
 
@@ -139,13 +144,13 @@ module _ (f : Waiting → Waiting) (w v : List Waiting) (n n′ : ℕ) (em : Emb
         ∙ sym (append-assoc (map f (take p w)) (map f (drop (suc p) w)) v)
         ∙ ap {B = List Waiting} (λ l. l ++ v) (sym (map-append f (take p w) (drop (suc p) w)))
 
-    decomposed-carried : (nodes : List Node) → decomposed (map f w ++ v) p (from-step n′) nodes ≡ map f (decomposed w p (from-step n) nodes) ++ v
+    decomposed-carried : (m : ℕ) (nodes : List Node) → decomposed (map f w ++ v) p (used n′ m) nodes ≡ map f (decomposed w p (used n m) nodes) ++ v
     unfolding decomposed
-    decomposed-carried nodes =
+    decomposed-carried m nodes =
         ap₂ {C = List Waiting} (λ a b. a ++ b)
         (take-append-le p (map f w) v (omega (arith, inside-map)) ∙ take-map f p w)
         (ap₂ {C = List Waiting} (λ a b. a ++ b)
-        (ap {B = List Waiting} (λ g. enter (from-step n′) (some (g .name)) 0 nodes) goal-carried ∙ sym (em .enters (goalAt w p) nodes))
+        (ap {B = List Waiting} (λ g. enter (used n′ m) (some (g .name)) 0 nodes) goal-carried ∙ sym (em .enters (goalAt w p) m nodes))
         (drop-append-le p (map f w) v (omega (arith, inside-map)) ∙ ap {B = List Waiting} (λ l. l ++ v) (drop-map f p w))
         ∙ sym (append-assoc (map f new) (map f (drop p w)) v)
         ∙ ap {B = List Waiting} (λ l. l ++ v) (sym (map-append f new (drop p w))))
@@ -153,7 +158,7 @@ module _ (f : Waiting → Waiting) (w v : List Waiting) (n n′ : ℕ) (em : Emb
         ∙ ap {B = List Waiting} (λ l. l ++ v) (sym (map-append f (take p w) (new ++ drop p w)))
       where
         new : List Waiting
-        new = enter (from-step n) (some (goalAt w p .name)) 0 nodes
+        new = enter (used n m) (some (goalAt w p .name)) 0 nodes
 
 module _ (f : Waiting → Waiting) (v : List Waiting) (n n′ : ℕ) (P : Problem) (em : Embeds f (P .waiting) v n n′) (r : Rules) where
   -- The rules with a limit that counts the goals behind.
@@ -173,10 +178,10 @@ module _ (f : Waiting → Waiting) (v : List Waiting) (n n′ : ℕ) (P : Proble
         (same-question 31 (ap (r .mayUse (methodAt (r .domain) m)) same-formula) (same-question 32 (room (networkOf (methodAt (r .domain) m))) refl))
       where
         room : (nodes : List Node)
-            → leb (length (decomposed (map f (P .waiting) ++ v) p (from-step n′) nodes)) (r .limit + length v) ≡ leb (length (decomposed (P .waiting) p (from-step n) nodes)) (r .limit)
+            → leb (length (decomposed (map f (P .waiting) ++ v) p (used n′ m) nodes)) (r .limit + length v) ≡ leb (length (decomposed (P .waiting) p (used n m) nodes)) (r .limit)
         room nodes =
-            let w = decomposed (P .waiting) p (from-step n) nodes in
-            ap (λ (l : List Waiting). leb (length l) (r .limit + length v)) (decomposed-carried f (P .waiting) v n n′ em p h nodes)
+            let w = decomposed (P .waiting) p (used n m) nodes in
+            ap (λ (l : List Waiting). leb (length l) (r .limit + length v)) (decomposed-carried f (P .waiting) v n n′ em p h m nodes)
             ∙ ap (λ (k : ℕ). leb k (r .limit + length v)) (length-append (map f w) v ∙ ap (λ (k : ℕ). k + length v) (length-map w f))
             ∙ leb-behind (length w) (r .limit) (length v)
     own-carried unknown = refl
@@ -186,12 +191,15 @@ module _ (f : Waiting → Waiting) (v : List Waiting) (n n′ : ℕ) (P : Proble
     moved-carried release = ap {B = Problem} (λ w. record { state = P .state; waiting = w }) (released-carried f (P .waiting) v n n′ em p h)
     moved-carried (act k) = refl
     moved-carried (use-method m) =
-        ap {B = Problem} (λ w. record { state = P .state; waiting = w }) (decomposed-carried f (P .waiting) v n n′ em p h (networkOf (methodAt (r .domain) m)))
+        ap {B = Problem} (λ w. record { state = P .state; waiting = w }) (decomposed-carried f (P .waiting) v n n′ em p h m (networkOf (methodAt (r .domain) m)))
     moved-carried unknown = refl
 
     deed-carried : (m : Move) → deedOf (embedded f v P) p m ≡ renamedDeed f (deedOf P p m)
     unfolding deedOf renamedDeed
-    deed-carried release = ap (λ (g : Waiting). releases (g ∷ [])) (goal-carried f (P .waiting) v n n′ em p h)
+    deed-carried release =
+        let q = goalAt (P .waiting) p in
+        ap (λ (g : Waiting). releases (leaving (map f (P .waiting) ++ v) g ∷ [])) (goal-carried f (P .waiting) v n n′ em p h)
+        ∙ ap (λ (a : ℕ). releases (record { goal = f q; above = a } ∷ [])) (em .above q (at-mem (at-of-lt (P .waiting) p noGoal h)))
     deed-carried (act k) = refl
     deed-carried (use-method m) = ap (uses m) (goal-carried f (P .waiting) v n n′ em p h)
     deed-carried unknown = refl

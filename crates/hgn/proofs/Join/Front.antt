@@ -2,14 +2,16 @@
 -- join is a step on the first order's part with the second's goals carried along. Assumes nothing.
 use Prim.Native.Nat.{ℕ, _≤_, _<_}
 use native.Mathlib.Omega.{arith}
-use mathlib.Core.Path.{_≡_, refl, sym, _∙_, subst}
+use mathlib.Core.Path.{_≡_, refl, sym, ap, _∙_, subst}
 use mathlib.Core.Bool.{false}
 use mathlib.Core.List.{List, [], _∷_, _++_, map-id, List·Memᴰ, List·Memᴰ·head, List·Memᴰ·tail, Memᴰ·append-left}
 use mathlib.Core.Option.{none, some, Option·none-ne-some}
-use Rattle.hgn.specs.Network.{from-order, from-step, Waiting, comesAfter, free, enter}
+use Rattle.hgn.specs.Network.{from-order, used, Waiting, comesAfter, free, enter, goalsAbove}
 use Rattle.hgn.specs.Definition1.{ComesAfter, by-row, by-method}
 use Rattle.hgn.proofs.Logic.Tests.{comes-after-iff, free-iff-none-listed, not-true-false}
 use Rattle.hgn.proofs.Join.Embedding.{Embeds}
+use Rattle.hgn.proofs.Network.Names.{order≢step}
+use Rattle.hgn.proofs.Network.Above.{above-in-front}
 use Rattle.hgn.proofs.Network.Rooted.{RootedGoal, of-order, brought, Rooted}
 
 -- A goal of the first order, one of `g`: it comes only after such goals.
@@ -31,14 +33,11 @@ pub record BackGoal (g : ℕ) (q : Waiting) : Type 0 where
 abbrev pub Back : ℕ → List Waiting → Type 0
 Back g v = (q : Waiting) → List·Memᴰ q v → BackGoal g q
 
-order≢step : {k : ℕ} → from-order ≡ from-step k → ⊥
-order≢step e = let z : _≡_ {A = ℕ} 0 1 = cc in omega arith
-
 -- A first part that is not empty has one of the first order's own goals in it.
 own-goal : (g : ℕ) (q : Waiting) (rest : List Waiting) → Front g (q ∷ rest)
     → (p : Waiting) × List·Memᴰ p (q ∷ rest) × (p .name .origin ≡ from-order) × (p .name .number < g)
-own-goal g q [] (of-order o h, u) = (q, List·Memᴰ·head refl, o, h .number)
-own-goal g q [] (brought o m e, u) = elim m [ ]
+own-goal g q [] (of-order s o e h, u) = (q, List·Memᴰ·head refl, o, h .number)
+own-goal g q [] (brought s o m e, u) = elim m [ ]
 own-goal g q (r ∷ rest) (h, u) = let x = own-goal g r rest u in (x .0, List·Memᴰ·tail (x .1), x .2, x .3)
 
 -- Where a goal stands does not matter for what it comes after.
@@ -49,8 +48,8 @@ front-below : (g : ℕ) (w : List Waiting) (q : Waiting) → Front g w → List�
 front-below g (p ∷ w) q (h, u) (List·Memᴰ·head e) = subst (Below g) (sym e) (here-below h)
   where
     here-below : RootedGoal (OfFirst g) p w → Below g p
-    here-below (of-order o h) = record { bound = λ o′. h .afters }
-    here-below (brought o m e′) = record { bound = λ o′. absurd (order≢step (sym o′ ∙ o)) }
+    here-below (of-order s o n h) = record { bound = λ o′. h .afters }
+    here-below (brought s o m e′) = record { bound = λ o′. absurd (order≢step (sym o′ ∙ o)) }
 front-below g (p ∷ w) q (h, u) (List·Memᴰ·tail m) = front-below g w q u m
 
 -- No goal of the first part comes after one of the second.
@@ -76,7 +75,8 @@ pub front-embeds : (g n : ℕ) (q : Waiting) (rest v : List Waiting) → Front g
 front-embeds g n q rest v fr bk = record {
   formula = λ p. refl;
   after = λ p r. refl;
-  enters = λ p nodes. map-id (enter (from-step n) (some (p .name)) 0 nodes);
+  enters = λ p m nodes. map-id (enter (used n m) (some (p .name)) 0 nodes);
+  above = λ p m. ap (λ (l : List Waiting). goalsAbove (l ++ v) p) (map-id (q ∷ rest)) ∙ above-in-front (OfFirst g) (q ∷ rest) v fr p m;
   apart = λ p r m k. front-apart g (q ∷ rest) v fr bk p r m k;
   blocked = λ p m. subst (λ (l : List Waiting). free (l ++ v) p ≡ false) (sym (map-id (q ∷ rest))) (front-blocks g q rest v fr bk p m);
 }

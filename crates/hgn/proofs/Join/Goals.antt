@@ -9,7 +9,7 @@ use mathlib.Core.Option.{none, Option·none-ne-some}
 use lib.ListN.{length, length-append, length-map}
 use Rattle.hgn.specs.Lists.{At, here, there}
 use Rattle.hgn.specs.Meaning.{Node, Order, noNode}
-use Rattle.hgn.specs.Network.{from-order, Waiting, enter, goalsOf}
+use Rattle.hgn.specs.Network.{from-order, order, Waiting, enter, goalsOf}
 use Rattle.hgn.specs.Join.{raised, join}
 use Rattle.hgn.specs.Definition1.{ComesAfter, by-row, by-method}
 use Rattle.hgn.specs.Questions.{passed}
@@ -35,7 +35,7 @@ pub from-sheets : {shop : List ℕ} {o : Order} → FromSheets shop o → (check
 from-sheets f = let r = rules-of f in (r .0, numbered (r .1))
 
 -- The goal at place `k`: its name, and its node.
-goal-at : (i : ℕ) {k : ℕ} {q : Waiting} (ns : List Node) → At (enter from-order none i ns) k q
+goal-at : (i : ℕ) {k : ℕ} {q : Waiting} (ns : List Node) → At (enter order none i ns) k q
     → (q .name .origin ≡ from-order) × (q .name .number ≡ i + k) × ((n : Node) × At ns k n × (q .after ≡ n .after)) × (q .parent ≡ none)
 unfolding enter
 goal-at i (n ∷ ns) here = (refl, sym (add-zero i), (n, here, refl), refl)

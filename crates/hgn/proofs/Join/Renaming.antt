@@ -16,7 +16,7 @@ use Rattle.hgn.specs.Questions.{_asks_, failedAt, allAt, firstNo}
 use Rattle.hgn.specs.Questions as Questions
 use Rattle.hgn.specs.Meaning.{Node}
 use Rattle.hgn.specs.State.{State}
-use Rattle.hgn.specs.Network.{Origin, from-order, from-step, Name, Waiting, sameOrigin, sameName, isParent, comesAfter, enter}
+use Rattle.hgn.specs.Network.{Origin, from-order, from-step, Name, Source, order, used, originOf, Waiting, sameOrigin, sameName, isParent, comesAfter, enter, aboveFrom}
 use Rattle.hgn.specs.Run.{Step, Problem, Rules, limited, stepQuestions, Deed, releases, takes, uses, planOf, Stepped}
 use Rattle.hgn.specs.Run.{refused, taken, stepped, Outcome, stopped, accepted, prepend, endQuestions, ended, runBy, run}
 use Rattle.hgn.specs.Join.{raised}
@@ -93,28 +93,33 @@ module _ (g : ℕ) (σ : ℕ → ℕ) where
   renameAfter from-order ns = range 0 g ++ map (λ k. g + k) ns
   renameAfter (from-step k) ns = ns
 
+  abbrev renameSource : Source → Source
+  renameSource order = order
+  renameSource (used k m) = used (σ k) m
+
   -- A waiting goal under its other name.
   abbrev pub rename : Waiting → Waiting
   rename q = record {
     name = renamed (q .name .origin) (q .name .number);
+    source = renameSource (q .source);
     parent = Option·map (λ n. renamed (n .origin) (n .number)) (q .parent);
     after = renameAfter (q .name .origin) (q .after);
     formula = q .formula;
   }
 
-  pub enter-renamed : (n i : ℕ) (a : Name) (nodes : List Node)
-      → map rename (enter (from-step n) (some a) i nodes) ≡ enter (from-step (σ n)) (some (renamed (a .origin) (a .number))) i nodes
+  pub enter-renamed : (n m i : ℕ) (a : Name) (nodes : List Node)
+      → map rename (enter (used n m) (some a) i nodes) ≡ enter (used (σ n) m) (some (renamed (a .origin) (a .number))) i nodes
   unfolding enter
-  enter-renamed n i a [] = refl
-  enter-renamed n i a (x ∷ nodes) = same-head (enter-renamed n (suc i) a nodes)
+  enter-renamed n m i a [] = refl
+  enter-renamed n m i a (x ∷ nodes) = same-head (enter-renamed n m (suc i) a nodes)
 
   -- The goals of the second order in the join are its goals renamed.
-  pub goals-renamed : (i : ℕ) (nodes : List Node) → map rename (enter from-order none i nodes) ≡ enter from-order none (g + i) (map (raised g) nodes)
+  pub goals-renamed : (i : ℕ) (nodes : List Node) → map rename (enter order none i nodes) ≡ enter order none (g + i) (map (raised g) nodes)
   unfolding enter raised
   goals-renamed i [] = refl
   goals-renamed i (x ∷ nodes) =
       same-head
-      (goals-renamed (suc i) nodes ∙ ap (λ (k : ℕ). enter from-order none k (map (raised g) nodes)) (add-suc g i))
+      (goals-renamed (suc i) nodes ∙ ap (λ (k : ℕ). enter order none k (map (raised g) nodes)) (add-suc g i))
 
   module _ (one : Injective σ) where
     same-renamed : (a b : Origin) (i j : ℕ)
@@ -152,11 +157,21 @@ module _ (g : ℕ) (σ : ℕ → ℕ) where
         ∙ sibling-renamed (q .name .origin) (p .name .origin) (p .name .number) (q .after))
         (parent-renamed (q .name) (p .parent))
 
+    -- As many goals stand above.
+    above-renamed : (w : List Waiting) (o : Option Name)
+        → aboveFrom (map rename w ++ []) (Option·map (λ n. renamed (n .origin) (n .number)) o) ≡ aboveFrom w o
+    unfolding aboveFrom sameName
+    above-renamed [] o = refl
+    above-renamed (q ∷ w) none = refl
+    above-renamed (q ∷ w) (some a) =
+        rw (same-renamed (a .origin) (q .name .origin) (a .number) (q .name .number), above-renamed w (q .parent), above-renamed w (some a)) refl
+
     rename-embeds : (w : List Waiting) (n : ℕ) → Embeds rename w [] n (σ n)
     rename-embeds w n = record {
       formula = λ q. refl;
       after = comes-after-renamed;
-      enters = λ q nodes. enter-renamed n 0 (q .name) nodes;
+      enters = λ q m nodes. enter-renamed n m 0 (q .name) nodes;
+      above = λ q k. above-renamed w (q .parent);
       apart = λ q p m k. elim k [ ];
       blocked = λ p k. elim k [ ];
     }
@@ -173,7 +188,7 @@ module _ (g : ℕ) (σ : ℕ → ℕ) where
         go [] = refl
         go (q ∷ w) = rw (eqb·suc-zero (length w), eqb·suc-zero (length (map rename w)), ended)
 
-    step-renamed : (r : Rules) (n : ℕ) (P : Problem) (x : Step)
+    pub step-renamed : (r : Rules) (n : ℕ) (P : Problem) (x : Step)
         → stepped r (σ n) (inNames P) x ≡ carried rename [] (stepped r n P x)
     unfolding carried
     step-renamed r n P x = go (ltb (x .place) (length (P .waiting))) refl
@@ -211,6 +226,10 @@ module _ (σ : ℕ → ℕ) (n : ℕ) (keeps : (k : ℕ) → k < n → σ k ≡ 
   name-kept from-order i h = ap {B = Name} (λ (k : ℕ). record { origin = from-order; number = k }) (zero-add i)
   name-kept (from-step k) i h = ap {B = Name} (λ (j : ℕ). record { origin = from-step j; number = i }) (keeps k (h k refl))
 
+  source-kept : (a : Source) → Before n (originOf a) → renameSource 0 σ a ≡ a
+  source-kept order h = refl
+  source-kept (used k m) h = ap {B = Source} (λ (j : ℕ). used j m) (keeps k (h k refl))
+
   parent-kept : (o : Option Name) → ((a : Name) → o ≡ some a → Before n (a .origin))
       → Option·map (λ (a : Name). renamed 0 σ (a .origin) (a .number)) o ≡ o
   parent-kept none h = refl
@@ -225,6 +244,7 @@ module _ (σ : ℕ → ℕ) (n : ℕ) (keeps : (k : ℕ) → k < n → σ k ≡ 
   pub rename-kept : (q : Waiting) → Fresh n q → rename 0 σ q ≡ q
   rename-kept q h = λ i. record {
     name = name-kept (q .name .origin) (q .name .number) (h .by-name) i;
+    source = source-kept (q .source) (h .by-source) i;
     parent = parent-kept (q .parent) (h .by-parent) i;
     after = after-kept (q .name .origin) (q .after) i;
     formula = q .formula;

@@ -1,7 +1,7 @@
 -- Demand 3 of replays: the replay on the join, and those of the two parts of a cut. Assumes nothing.
 use Prim.Native.Nat.{ℕ, _+_, _-_, _≤_, _<_}
 use native.Mathlib.Omega.{arith}
-use mathlib.Core.Path.{_≡_, refl, sym, ap, ap₂, _∙_}
+use mathlib.Core.Path.{_≡_, refl, sym, ap, ap₂, _∙_, subst₂}
 use mathlib.Core.Bool.{Bool, true, false}
 use mathlib.Core.Logic.{_↔_}
 use mathlib.Core.List.{List, _++_}
@@ -15,7 +15,7 @@ use Rattle.hgn.specs.Rows.{mostRows}
 use Rattle.hgn.specs.State.{State, mostAtoms}
 use Rattle.hgn.specs.Network.{Waiting, goalsOf, enter, mostWaiting}
 use Rattle.hgn.specs.Network as Network
-use Rattle.hgn.specs.Run.{problemOf, problemFrom, startOf, limited, run}
+use Rattle.hgn.specs.Run.{problemOf, problemFrom, startOf, limited, accepted, run}
 use Rattle.hgn.specs.Join.{join}
 use Rattle.hgn.specs.Shop.{domain}
 use Rattle.hgn.specs.Order.{order, rowCount, checkOrder}
@@ -23,6 +23,8 @@ use Rattle.hgn.specs.Trace.{stepCount, stepsOf, checkTrace}
 use Rattle.hgn.specs.Replay.{rulesOf, Replayed, replay}
 use Rattle.hgn.specs.JoinSheet.{joinedWords, writeJoin, sheetIn}
 use Rattle.hgn.specs.Lent.{Lent}
+use Rattle.hgn.specs.Listing.{Line, linesOf, linesIn}
+use Rattle.hgn.specs.Demands.{Carried, oneBehindOther}
 use Rattle.hgn.specs.Demands.{Accepts, OnJoin, JoinRule, ReplayCall, Accepting, planIn, Whole, Parts, Counted, BothAccept, OneAfterOther, CutAt, JoinOfReplays, Demand3OfReplays}
 use Rattle.hgn.specs.Demands.{InputsPass, BothPass, IsJoin, RuleOfSheet, JoinRuleOfSheet, Demand3OfCalls}
 use Rattle.hgn.proofs.Logic.Tests.{strict-decided}
@@ -39,7 +41,8 @@ use Rattle.hgn.proofs.Join.Rows.{joined-goals}
 use Rattle.hgn.proofs.Join.Call.{joined-is-join, wrote}
 use Rattle.hgn.proofs.Join.Sheets.{joined-means, joined-passes, surely-few}
 use Rattle.hgn.proofs.Run.Replay.{demand-2}
-use Rattle.hgn.proofs.Join.Cut.{demand-3}
+use Rattle.hgn.proofs.Join.Rule.{demand-3}
+use Rattle.hgn.proofs.Listing.Truths.{lines-of-runs}
 
 -- A replay on sheets that pass accepts exactly where its run does, with the run's results.
 module _ {shop sheet trace : List ℕ} (k : ReplayCall shop sheet trace) where
@@ -73,12 +76,29 @@ module _ {shop sheet trace : List ℕ} (k : ReplayCall shop sheet trace) where
 
 goals-of : (o p : Order) → o .goals ≡ p .goals → goalsOf o ≡ goalsOf p
 unfolding goalsOf
-goals-of o p e = ap (enter Network.from-order none 0) e
+goals-of o p e = ap (enter Network.order none 0) e
+
+module _ (shop first second trace : List ℕ) (one : checkOrder shop first ≡ passed) (two : checkOrder shop second ≡ passed) where
+  rule-of : JoinRule (rulesOf shop) (order first) (order second) (stepsOf trace)
+  rule-of = demand-3 shop first second one two (rulesOf shop) refl (stepsOf trace)
+
+  -- Of a sheet that means the join: its lines, and what its waiting goals carry.
+  sheet-lines : (joined : List ℕ) → order joined ≡ join (order first) (order second) → (c : ℕ) (cut : CutAt shop first second trace c)
+      → linesIn shop joined trace ≡ oneBehindOther c (linesOf 0 (cut .front .deeds)) (linesOf 0 (cut .back .deeds))
+  sheet-lines joined means c cut =
+      let on = rule-of .results c cut (cut .frontPlan ++ cut .backPlan) (cut .last) .1 (refl, refl) in
+      lines-of-runs shop joined trace .of-accepted (on .deeds) (cut .last) (ap (λ (o : Order). run (rulesOf shop) 0 (problemOf o) (stepsOf trace)) means ∙ on .runs)
+      ∙ rule-of .lines c cut _ _ on
+
+  sheet-carries : (joined : List ℕ) → order joined ≡ join (order first) (order second) → (c : ℕ) (cut : CutAt shop first second trace c) (between : State) → cut .between ≡ between
+      → Carried (rulesOf shop) (order joined) (order first) (order second) (stepsOf trace) c between
+  sheet-carries joined means c cut between e =
+      subst₂ (λ (o : Order) (s : State). Carried (rulesOf shop) o (order first) (order second) (stepsOf trace) c s) (sym means) e (rule-of .carried c cut)
 
 module _ (shop first second trace : List ℕ)
     (one : checkOrder shop first ≡ passed) (two : checkOrder shop second ≡ passed) (steps : TracePassed trace) where
   rule : JoinRule (rulesOf shop) (order first) (order second) (stepsOf trace)
-  rule = demand-3 shop first second one two (rulesOf shop) refl (stepsOf trace)
+  rule = rule-of shop first second trace one two
 
   few : length (order second .goals) ≤ mostWaiting
   few = order-goals shop second two
@@ -100,6 +120,8 @@ module _ (shop first second trace : List ℕ)
     front : Gives (p .front) (cut .frontPlan) (cut .between)
     counted : Counted (length (order second .goals)) (rulesOf shop) (problemOf (order first)) (stepsOf (p .frontTrace))
     back : Gives (p .back) (cut .backPlan) (cut .last)
+    front-runs : run (rulesOf shop) 0 (problemOf (order first)) (stepsOf (p .frontTrace)) ≡ accepted (cut .front .deeds) (cut .between)
+    back-runs : run (rulesOf shop) 0 (problemOf (order (p .backOrder))) (stepsOf (p .backTrace)) ≡ accepted (cut .back .deeds) (cut .last)
 
   cut-ran : {c : ℕ} (p : Parts shop first second trace c) (cut : CutAt shop first second trace c) → Cutted p cut
   unfolding others
@@ -116,6 +138,8 @@ module _ (shop first second trace : List ℕ)
               runs = back-run p (front .number) (cut .between) (front .state) ∙ cut .back .runs;
               plan-is = cut .back .plan-is;
             });
+        front-runs = wide;
+        back-runs = back-run p (front .number) (cut .between) (front .state) ∙ cut .back .runs;
       }
 
   both-accept : {c : ℕ} (p : Parts shop first second trace c) (cut : CutAt shop first second trace c) → BothAccept p
@@ -201,6 +225,12 @@ module _ (shop first second trace : List ℕ)
         count = w .count ∙ length-append (cut .frontPlan) (cut .backPlan) ∙ ap₂ _+_ (sym (t .front .count)) (sym (t .back .count));
         cost = w .cost ∙ cost-append (domain shop) (cut .frontPlan) (cut .backPlan) ∙ ap₂ _+_ (sym (t .front .cost)) (sym (t .back .cost));
         state = w .state ∙ sym (t .back .state);
+        lines =
+            sheet-lines shop first second trace one two (k .joined) (k .means) c cut
+            ∙ ap₂ {C = List Line} (oneBehindOther c)
+            (sym (lines-of-runs shop first (p .frontTrace) .of-accepted (cut .front .deeds) (cut .between) (t .front-runs)))
+            (sym (lines-of-runs shop (p .backOrder) (p .backTrace) .of-accepted (cut .back .deeds) (cut .last) (t .back-runs)));
+        carried = sheet-carries shop first second trace one two (k .joined) (k .means) c cut (p .front .result .answer .state) (sym (t .front .state));
       }
 
   -- A sheet of more than 64 goals does not pass.
@@ -331,7 +361,7 @@ module _ (shop first second room : List ℕ) (c : Lent (List ℕ)) (called : c �
     accepts h d cut =
         cut-accepts shop first second trace (both-pass .0) (both-pass .1) (trace-passed shop first trace (h .0)) (whole-of trace (call h)) d cut
 
-    sheet-rule : RuleOfSheet shop first second trace plan e
+    sheet-rule : RuleOfSheet shop first second (sheetIn (c .room)) trace plan e
     sheet-rule = record {
       accepted-iff = (
         (λ z.
@@ -342,6 +372,8 @@ module _ (shop first second room : List ℕ) (c : Lent (List ℕ)) (called : c �
       one-cut = demand-3 shop first second (both-pass .0) (both-pass .1) (rulesOf shop) refl (stepsOf trace) .one-cut;
       results = accepts;
       cost = λ h d cut. accepts h d cut .cost ∙ cost-append (domain shop) (cut .frontPlan) (cut .backPlan);
+      lines = sheet-lines shop first second trace (both-pass .0) (both-pass .1) (sheetIn (c .room)) (written .means);
+      carried = λ d cut. sheet-carries shop first second trace (both-pass .0) (both-pass .1) (sheetIn (c .room)) (written .means) d cut (cut .between) refl;
     }
 
 pub join-rule-of-sheet : JoinRuleOfSheet

@@ -8,7 +8,7 @@ use lib.ListN.{length}
 use Rattle.hgn.specs.Lists.{At, here, there}
 use Rattle.hgn.specs.Meaning.{Literal, Formula, Node, Method, Order, lastAfterAll, networkOf}
 use Rattle.hgn.specs.State.{State}
-use Rattle.hgn.specs.Network.{Origin, from-step, Name, Waiting, enter, goalsOf, noGoal, goalAt, decomposed}
+use Rattle.hgn.specs.Network.{Name, Source, used, Waiting, enter, goalsOf, noGoal, goalAt, decomposed}
 use Rattle.hgn.specs.Run.{Step, Move, moveOf, methodAt, noMethod, Problem, problemFrom, Rules, Deed}
 use Rattle.hgn.specs.Written.{ConjunctRules, NetworkRules}
 use Rattle.hgn.specs.Readings.{Reached, first, next}
@@ -34,7 +34,7 @@ also : {n : Node} {ns : List Node} {g : Formula} → FormulaOf ns g → FormulaO
 also a = (suc (a .0), a .1, there (a .2), a .3)
 
 -- A goal that enters has the formula of a node.
-entered-formula : (o : Origin) (parent : Option Name) (i : ℕ) (ns : List Node) (t : Waiting) → List·Memᴰ t (enter o parent i ns) → FormulaOf ns (t .formula)
+entered-formula : (o : Source) (parent : Option Name) (i : ℕ) (ns : List Node) (t : Waiting) → List·Memᴰ t (enter o parent i ns) → FormulaOf ns (t .formula)
 unfolding enter
 entered-formula o parent i [] t m = absurd (List·Memᴰ·not-nil m)
 entered-formula o parent i (n ∷ ns) t m =
@@ -63,8 +63,8 @@ module _ {F : ℕ} {r : Rules} (methods : (m : Method) → List·Memᴰ m (r .do
       let nodes = networkOf (methodAt (r .domain) m) in
       ⊎-elim (λ l. h t l)
       (λ l. keeps (methods _ (at-mem (at-of-lt (r .domain .methods) m noMethod (method-known (r .domain) k m e))))
-      (method-formula 0 _ (entered-formula (from-step n) at 0 nodes t l)))
-      (inserted-cases (enter (from-step n) at 0 nodes) (at-of-lt (P .waiting) p noGoal i) j)
+      (method-formula 0 _ (entered-formula (used n m) at 0 nodes t l)))
+      (inserted-cases (enter (used n m) at 0 nodes) (at-of-lt (P .waiting) p noGoal i) j)
 
   pub reached-formed : (o : Order) → NetworkRules F (o .goals) → {s : State} {xs : List Step} {P : Problem} → Reached r (problemFrom s o) xs P
       → Formed F (P .waiting)

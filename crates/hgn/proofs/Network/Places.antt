@@ -8,16 +8,16 @@ use mathlib.Core.Option.{Option, none, some}
 use lib.ListN.{length, take, drop}
 use Rattle.hgn.specs.Lists.{At, here, there}
 use Rattle.hgn.specs.Meaning.{Node}
-use Rattle.hgn.specs.Network.{Origin, from-order, Name, Waiting, enter, goalsOf, noGoal, goalAt, released, decomposed}
+use Rattle.hgn.specs.Network.{Name, Source, order, originOf, Waiting, enter, goalsOf, noGoal, goalAt, released, decomposed}
 use Rattle.hgn.specs.Readings.{PlacesAre01s}
 use Rattle.hgn.proofs.Logic.Tests.{at-getD}
 use Rattle.hgn.proofs.Network.Waiting.{length-enter, goals-length}
 
 -- What a node becomes in the list, under this number.
-abbrev entered : Origin → Option Name → Node → ℕ → Waiting
-entered o parent n number = record { name = record { origin = o; number = number }; parent = parent; after = n .after; formula = n .formula }
+abbrev entered : Source → Option Name → Node → ℕ → Waiting
+entered o parent n number = record { name = record { origin = originOf o; number = number }; source = o; parent = parent; after = n .after; formula = n .formula }
 
-listed : (o : Origin) (parent : Option Name) (i : ℕ) (nodes : List Node) (k : ℕ) (n : Node) → At nodes k n
+listed : (o : Source) (parent : Option Name) (i : ℕ) (nodes : List Node) (k : ℕ) (n : Node) → At nodes k n
     → At (enter o parent i nodes) k (entered o parent n (i + k))
 unfolding enter
 listed o parent i (n ∷ ns) zero _ here = subst (λ (j : ℕ). At (enter o parent i (n ∷ ns)) zero (entered o parent n j)) (sym (add-zero i)) here
@@ -59,7 +59,7 @@ behind (x ∷ w) new (suc p) (suc i) a l (there h) =
     subst (λ (k : ℕ). At (x ∷ (take p w ++ (new ++ drop p w))) k a) (omega arith) (there (behind w new p i a (le-of-suc-le-suc l) h))
 
 -- The node at place `k` of a network, in the list under its own number.
-at-first : (o : Origin) (parent : Option Name) (nodes : List Node) (k : ℕ) (n : Node) → At nodes k n
+at-first : (o : Source) (parent : Option Name) (nodes : List Node) (k : ℕ) (n : Node) → At nodes k n
     → At (enter o parent 0 nodes) k (entered o parent n k)
 at-first o parent nodes k n h =
     subst (λ (j : ℕ). At (enter o parent 0 nodes) k (entered o parent n j)) (zero-add k) (listed o parent 0 nodes k n h)
@@ -67,7 +67,7 @@ at-first o parent nodes k n h =
 pub places-are-01s : PlacesAre01s
 unfolding decomposed goalsOf
 places-are-01s = record {
-  goals-as-listed = λ o k n h. at-first from-order none (o .goals) k n h;
+  goals-as-listed = λ o k n h. at-first order none (o .goals) k n h;
   goals-alone = goals-length;
   nodes-as-listed = at-first;
   release-before = released-before;

@@ -7,7 +7,7 @@ use mathlib.Core.List.{List, [], _∷_, List·Memᴰ, List·Memᴰ·cases-cons, 
 use mathlib.Core.Option.{some}
 use Rattle.hgn.specs.Lists.{At, here, there}
 use Rattle.hgn.specs.Meaning.{Node, Method, networkOf}
-use Rattle.hgn.specs.Network.{Waiting, from-step, enter, noGoal, released, decomposed}
+use Rattle.hgn.specs.Network.{Waiting, used, enter, noGoal, released, decomposed}
 use Rattle.hgn.specs.Definition1.{ComesAfter, Precedes, listed, through, Unconstrained}
 use Rattle.hgn.specs.Readings.{NetworksAre000s, Pair, entering, Closure, one, more}
 use Rattle.hgn.proofs.Logic.Tests.{at-mem, at-getD, last-listed, free-iff-unconstrained}
@@ -52,10 +52,10 @@ one-place (suc i) zero t h (there a) here = absurd (h .0 t (at-mem a) refl)
 one-place (suc i) (suc j) t h (there a) (there b) = ap suc (one-place i j t (h .1) a b)
 
 -- The nodes that enter at the goal of place `p` carry its name.
-decomposed-is : (n : ℕ) {w : List Waiting} {p : ℕ} {t : Waiting} (nodes : List Node) → At w p t
-    → decomposed w p (from-step n) nodes ≡ inserted w p (enter (from-step n) (some (t .name)) 0 nodes)
+decomposed-is : (n u : ℕ) {w : List Waiting} {p : ℕ} {t : Waiting} (nodes : List Node) → At w p t
+    → decomposed w p (used n u) nodes ≡ inserted w p (enter (used n u) (some (t .name)) 0 nodes)
 unfolding decomposed
-decomposed-is n {w} {p} nodes k = ap (λ (x : Waiting). inserted w p (enter (from-step n) (some (x .name)) 0 nodes)) (at-getD noGoal k)
+decomposed-is n u {w} {p} nodes k = ap (λ (x : Waiting). inserted w p (enter (used n u) (some (x .name)) 0 nodes)) (at-getD noGoal k)
 
 module _ {n : ℕ} {w : List Waiting} (h : Named n w) where
   -- T′ = T \ {t}.
@@ -74,26 +74,26 @@ module _ {n : ℕ} {w : List Waiting} (h : Named n w) where
   )
 
   -- T′ = T ∪ T_m.
-  method-nodes : (p : ℕ) (t a : Waiting) (m : Method) → At w p t
-      → List·Memᴰ a (decomposed w p (from-step n) (networkOf m)) ↔ (List·Memᴰ a w ⊎ List·Memᴰ a (entering n t m))
-  method-nodes p t a m k = rw (decomposed-is n (networkOf m) k) (inserted-cases (entering n t m) k, ⊎-elim (inserted-old (entering n t m) k) (inserted-new w p))
+  method-nodes : (p : ℕ) (t a : Waiting) (u : ℕ) (m : Method) → At w p t
+      → List·Memᴰ a (decomposed w p (used n u) (networkOf m)) ↔ (List·Memᴰ a w ⊎ List·Memᴰ a (entering n u t m))
+  method-nodes p t a u m k = rw (decomposed-is n u (networkOf m) k) (inserted-cases (entering n u t m) k, ⊎-elim (inserted-old (entering n u t m) k) (inserted-new w p))
 
   -- ≺′ = ≺ ∪ ≺_m ∪ {(t_m, t) | t_m ∈ T_m}, of the listed pairs: a new node is listed before new ones by row and before `t`, and no
   -- old one is listed before a new one.
-  method-pairs : (p : ℕ) (t a b : Waiting) (m : Method) → At w p t
-      → Pair (decomposed w p (from-step n) (networkOf m)) a b
+  method-pairs : (p : ℕ) (t a b : Waiting) (u : ℕ) (m : Method) → At w p t
+      → Pair (decomposed w p (used n u) (networkOf m)) a b
       ↔ (Pair w a b
-      ⊎ ((List·Memᴰ a (entering n t m) × List·Memᴰ b (entering n t m) × List·Memᴰ (a .name .number) (b .after))
-      ⊎ (List·Memᴰ a (entering n t m) × (b ≡ t))))
-  method-pairs p t a b m k = ((λ r. to (nodes a .0 (r .0)) (nodes b .0 (r .1)) (r .2)), from)
+      ⊎ ((List·Memᴰ a (entering n u t m) × List·Memᴰ b (entering n u t m) × List·Memᴰ (a .name .number) (b .after))
+      ⊎ (List·Memᴰ a (entering n u t m) × (b ≡ t))))
+  method-pairs p t a b u m k = ((λ r. to (nodes a .0 (r .0)) (nodes b .0 (r .1)) (r .2)), from)
     where
       New : Waiting → Type 0
-      New x = List·Memᴰ x (entering n t m)
+      New x = List·Memᴰ x (entering n u t m)
 
-      nodes : (x : Waiting) → List·Memᴰ x (decomposed w p (from-step n) (networkOf m)) ↔ (List·Memᴰ x w ⊎ New x)
-      nodes x = method-nodes p t x m k
+      nodes : (x : Waiting) → List·Memᴰ x (decomposed w p (used n u) (networkOf m)) ↔ (List·Memᴰ x w ⊎ New x)
+      nodes x = method-nodes p t x u m k
 
-      r : (x : Waiting) → New x → Entered (from-step n) (some (t .name)) 0 x
+      r : (x : Waiting) → New x → Entered (used n u) (some (t .name)) 0 x
       r x i = entered (networkOf m) i
 
       both : New a → New b → ComesAfter b a → List·Memᴰ (a .name .number) (b .after)
@@ -102,11 +102,11 @@ module _ {n : ℕ} {w : List Waiting} (h : Named n w) where
 
       to : List·Memᴰ a w ⊎ New a → List·Memᴰ b w ⊎ New b → ComesAfter b a → Pair w a b ⊎ ((New a × New b × List·Memᴰ (a .name .number) (b .after)) ⊎ (New a × (b ≡ t)))
       to (inl i) (inl j) l = inl (i, j, l)
-      to (inl i) (inr j) l = absurd (strangers (networkOf m) h a b i j .not-after l)
-      to (inr i) (inl j) l = inr (inr (i, same-goal w (h .distinct) j (at-mem k) (strangers (networkOf m) h b a j i .before-parent l)))
+      to (inl i) (inr j) l = absurd (strangers u (networkOf m) h a b i j .not-after l)
+      to (inr i) (inl j) l = inr (inr (i, same-goal w (h .distinct) j (at-mem k) (strangers u (networkOf m) h b a j i .before-parent l)))
       to (inr i) (inr j) l = inr (inl (i, j, both i j l))
 
-      from : Pair w a b ⊎ ((New a × New b × List·Memᴰ (a .name .number) (b .after)) ⊎ (New a × (b ≡ t))) → Pair (decomposed w p (from-step n) (networkOf m)) a b
+      from : Pair w a b ⊎ ((New a × New b × List·Memᴰ (a .name .number) (b .after)) ⊎ (New a × (b ≡ t))) → Pair (decomposed w p (used n u) (networkOf m)) a b
       from (inl q) = (nodes a .1 (inl (q .0)), nodes b .1 (inl (q .1)), q .2)
       from (inr (inl q)) = (nodes a .1 (inr (q .0)), nodes b .1 (inr (q .1)), ComesAfter.by-row (r a (q .0) .its-origin ∙ sym (r b (q .1) .its-origin)) (q .2))
       from (inr (inr q)) = (
@@ -116,40 +116,40 @@ module _ {n : ℕ} {w : List Waiting} (h : Named n w) where
       )
 
   -- A node that enters is new.
-  method-new : (p : ℕ) (t a : Waiting) (m : Method) → At w p t → List·Memᴰ a (entering n t m) → ¬ List·Memᴰ a w
-  method-new p t a m k i j = strangers {at = t .name} (networkOf m) h a a j i .other refl
+  method-new : (p : ℕ) (t a : Waiting) (u : ℕ) (m : Method) → At w p t → List·Memᴰ a (entering n u t m) → ¬ List·Memᴰ a w
+  method-new p t a u m k i j = strangers {at = t .name} u (networkOf m) h a a j i .other refl
 
   -- ≺′ = ≺ ∪ ≺_m ∪ {(t_m, t) | t_m ∈ T_m}, of the orders, closed under transitivity.
-  method-order : (p : ℕ) (t a b : Waiting) (m : Method) → At w p t
-      → Precedes (decomposed w p (from-step n) (networkOf m)) a b
-      ↔ Closure (λ a b. Precedes w a b ⊎ (Precedes (entering n t m) a b ⊎ (List·Memᴰ a (entering n t m) × (b ≡ t)))) a b
-  method-order p t a b m k = (to, from)
+  method-order : (p : ℕ) (t a b : Waiting) (u : ℕ) (m : Method) → At w p t
+      → Precedes (decomposed w p (used n u) (networkOf m)) a b
+      ↔ Closure (λ a b. Precedes w a b ⊎ (Precedes (entering n u t m) a b ⊎ (List·Memᴰ a (entering n u t m) × (b ≡ t)))) a b
+  method-order p t a b u m k = (to, from)
     where
       Union : Waiting → Waiting → Type 0
-      Union a b = Precedes w a b ⊎ (Precedes (entering n t m) a b ⊎ (List·Memᴰ a (entering n t m) × (b ≡ t)))
+      Union a b = Precedes w a b ⊎ (Precedes (entering n u t m) a b ⊎ (List·Memᴰ a (entering n u t m) × (b ≡ t)))
 
-      both : {a b : Waiting} → List·Memᴰ a (entering n t m) → List·Memᴰ b (entering n t m) → List·Memᴰ (a .name .number) (b .after) → ComesAfter b a
+      both : {a b : Waiting} → List·Memᴰ a (entering n u t m) → List·Memᴰ b (entering n u t m) → List·Memᴰ (a .name .number) (b .after) → ComesAfter b a
       both i j l = ComesAfter.by-row (entered (networkOf m) i .its-origin ∙ sym (entered (networkOf m) j .its-origin)) l
 
-      pair : {a b : Waiting} → Pair (decomposed w p (from-step n) (networkOf m)) a b → Union a b
-      pair {a} {b} q = ⊎-elim (λ o. inl (listed (o .0) (o .1) (o .2))) (⊎-elim (λ o. inr (inl (listed (o .0) (o .1) (both (o .0) (o .1) (o .2))))) (λ o. inr (inr o))) (method-pairs p t a b m k .0 q)
+      pair : {a b : Waiting} → Pair (decomposed w p (used n u) (networkOf m)) a b → Union a b
+      pair {a} {b} q = ⊎-elim (λ o. inl (listed (o .0) (o .1) (o .2))) (⊎-elim (λ o. inr (inl (listed (o .0) (o .1) (both (o .0) (o .1) (o .2))))) (λ o. inr (inr o))) (method-pairs p t a b u m k .0 q)
 
-      to : {a b : Waiting} → Precedes (decomposed w p (from-step n) (networkOf m)) a b → Closure Union a b
+      to : {a b : Waiting} → Precedes (decomposed w p (used n u) (networkOf m)) a b → Closure Union a b
       to (listed i j l) = one (pair (i, j, l))
       to (through c e) = more (to c) (to e)
 
-      old : (x : Waiting) → List·Memᴰ x w → List·Memᴰ x (decomposed w p (from-step n) (networkOf m))
-      old x i = method-nodes p t x m k .1 (inl i)
+      old : (x : Waiting) → List·Memᴰ x w → List·Memᴰ x (decomposed w p (used n u) (networkOf m))
+      old x i = method-nodes p t x u m k .1 (inl i)
 
-      new : (x : Waiting) → List·Memᴰ x (entering n t m) → List·Memᴰ x (decomposed w p (from-step n) (networkOf m))
-      new x i = method-nodes p t x m k .1 (inr i)
+      new : (x : Waiting) → List·Memᴰ x (entering n u t m) → List·Memᴰ x (decomposed w p (used n u) (networkOf m))
+      new x i = method-nodes p t x u m k .1 (inr i)
 
-      part : {a b : Waiting} → Union a b → Precedes (decomposed w p (from-step n) (networkOf m)) a b
+      part : {a b : Waiting} → Union a b → Precedes (decomposed w p (used n u) (networkOf m)) a b
       part (inl c) = widen old c
       part (inr (inl c)) = widen new c
-      part {a} {b} (inr (inr q)) = let o = method-pairs p t a b m k .1 (inr (inr q)) in listed (o .0) (o .1) (o .2)
+      part {a} {b} (inr (inr q)) = let o = method-pairs p t a b u m k .1 (inr (inr q)) in listed (o .0) (o .1) (o .2)
 
-      from : {a b : Waiting} → Closure Union a b → Precedes (decomposed w p (from-step n) (networkOf m)) a b
+      from : {a b : Waiting} → Closure Union a b → Precedes (decomposed w p (used n u) (networkOf m)) a b
       from (one u) = part u
       from (more c e) = through (from c) (from e)
 

@@ -10,7 +10,7 @@ use lib.ListN.{length, length-append}
 use Rattle.hgn.specs.Lists.{At, here, there}
 use Rattle.hgn.specs.Meaning.{Node, Method, Domain, Order, networkOf}
 use Rattle.hgn.specs.State.{State}
-use Rattle.hgn.specs.Network.{Origin, Name, Waiting, enter, goalsOf, noGoal, released, decomposed}
+use Rattle.hgn.specs.Network.{Name, Source, order, used, originOf, Waiting, enter, goalsOf, noGoal, released, decomposed}
 use Rattle.hgn.specs.Run.{Step, Move, moveOf, methodAt, Problem, problemFrom, Rules, Deed}
 use Rattle.hgn.specs.Shop.{domain}
 use Rattle.hgn.specs.Definition1.{ComesAfter}
@@ -34,23 +34,23 @@ pub record Sound (n : ℕ) (w : List Waiting) : Type 0 where
   pub ordered : Ordered w
 
 -- Nodes that come after earlier nodes only enter in that order, if their parent is of another network.
-entered-ordered : {o : Origin} {parent : Option Name} (i : ℕ) (ns : List Node) → Numbered i ns
-    → ((a : Name) → parent ≡ some a → a .origin ≢ o) → Ordered (enter o parent i ns)
+entered-ordered : (o : Source) {parent : Option Name} (i : ℕ) (ns : List Node) → Numbered i ns
+    → ((a : Name) → parent ≡ some a → a .origin ≢ originOf o) → Ordered (enter o parent i ns)
 unfolding enter
-entered-ordered i [] h outside = tt
-entered-ordered {o} {parent} i (n ∷ ns) h outside = (after-none, entered-ordered (suc i) ns (h .1) outside)
+entered-ordered o i [] h outside = tt
+entered-ordered o {parent} i (n ∷ ns) h outside = (after-none, entered-ordered o (suc i) ns (h .1) outside)
   where
     q : Waiting
-    q = record { name = record { origin = o; number = i }; parent = parent; after = n .after; formula = n .formula }
+    q = record { name = record { origin = originOf o; number = i }; source = o; parent = parent; after = n .after; formula = n .formula }
 
     after-none : (p : Waiting) → List·Memᴰ p (q ∷ enter o parent (suc i) ns) → ¬ ComesAfter q p
-    after-none p m (ComesAfter.by-row e k) = let r = entered {i = i} (n ∷ ns) m in let a = r .its-number in let b = h .0 _ k in omega arith
-    after-none p m (ComesAfter.by-method e) = let r = entered {i = i} (n ∷ ns) m in outside (q .name) (sym (r .its-parent) ∙ e) refl
+    after-none p m (ComesAfter.by-row e k) = let r = entered {o = o} {i = i} (n ∷ ns) m in let a = r .its-number in let b = h .0 _ k in omega arith
+    after-none p m (ComesAfter.by-method e) = let r = entered {o = o} {i = i} (n ∷ ns) m in outside (q .name) (sym (r .its-parent) ∙ e) refl
 
 -- The order's goals at the start.
 start-sound : (o : Order) → Numbered 0 (o .goals) → Sound 0 (goalsOf o)
 unfolding goalsOf
-start-sound o h = record { named = named-goals o; ordered = entered-ordered 0 (o .goals) h (λ a e. absurd (Option·none-ne-some a e)) }
+start-sound o h = record { named = named-goals o; ordered = entered-ordered order 0 (o .goals) h (λ a e. absurd (Option·none-ne-some a e)) }
 
 -- The goals that stay are in order.
 released-ordered : {w : List Waiting} {p : ℕ} {t : Waiting} → At w p t → Ordered w → Ordered (released w p)
@@ -88,11 +88,12 @@ module _ {r : Rules} (numbered : (m : Method) → List·Memᴰ m (r .domain .met
   unfolding decomposed
   moved-ordered {p = p} {P = P} k e i (Moved.by-release a) h = released-ordered (at-of-lt (P .waiting) p noGoal i) (h .ordered)
   moved-ordered k e i (Moved.by-action a b) h = h .ordered
-  moved-ordered {p = p} {P = P} k e i (Moved.by-method {m = m} a b c) h =
+  moved-ordered {n = n} {p = p} {P = P} k e i (Moved.by-method {m = m} a b c) h =
       let t = at-of-lt (P .waiting) p noGoal i in
       inserted-ordered t (h .named .distinct) (h .ordered)
-      (entered-ordered 0 (networkOf (methodAt (r .domain) m)) (numbered _ (at-mem (at-of-lt (r .domain .methods) m _ (method-known (r .domain) k m e)))) (parent-outside (h .named) (at-mem t)))
-      (strangers (networkOf (methodAt (r .domain) m)) (h .named))
+      (entered-ordered (used n m) 0 (networkOf (methodAt (r .domain) m))
+      (numbered _ (at-mem (at-of-lt (r .domain .methods) m _ (method-known (r .domain) k m e)))) (parent-outside (h .named) (at-mem t)))
+      (strangers m (networkOf (methodAt (r .domain) m)) (h .named))
 
   reached-sound : (o : Order) {s₀ : State} {xs : List Step} {P : Problem} → Numbered 0 (o .goals) → Reached r (problemFrom s₀ o) xs P
       → Sound (length xs) (P .waiting)

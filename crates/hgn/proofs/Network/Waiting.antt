@@ -8,17 +8,17 @@ use mathlib.Core.Option.{Option, none}
 use lib.ListN.{length, take, drop, length-append, length-take, length-drop}
 use Rattle.hgn.specs.Lists.{At, here, there}
 use Rattle.hgn.specs.Meaning.{Node, Order}
-use Rattle.hgn.specs.Network.{Origin, from-order, Name, Waiting, enter, goalsOf, noGoal, goalAt, released}
+use Rattle.hgn.specs.Network.{Name, Source, order, Waiting, enter, goalsOf, noGoal, goalAt, released}
 use Rattle.hgn.proofs.Logic.Tests.{at-mem, at-of-lt}
 
-pub length-enter : (o : Origin) (parent : Option Name) (i : ℕ) (nodes : List Node) → length (enter o parent i nodes) ≡ length nodes
+pub length-enter : (o : Source) (parent : Option Name) (i : ℕ) (nodes : List Node) → length (enter o parent i nodes) ≡ length nodes
 unfolding enter
 length-enter o parent i [] = refl
 length-enter o parent i (n ∷ ns) = ap suc (length-enter o parent (suc i) ns)
 
 pub goals-length : (o : Order) → length (goalsOf o) ≡ length (o .goals)
 unfolding goalsOf
-goals-length o = length-enter from-order none 0 (o .goals)
+goals-length o = length-enter order none 0 (o .goals)
 
 -- The goal at a place of the list waits.
 pub goal-mem : (w : List Waiting) (p : ℕ) → p < length w → List·Memᴰ (goalAt w p) w

@@ -8,7 +8,7 @@ use lib.ListN.{length, getD}
 use Rattle.hgn.specs.Lists.{At}
 use Rattle.hgn.specs.Meaning.{Domain, Action, Method, networkOf}
 use Rattle.hgn.specs.State.{State, EntailsAll, Satisfies, γ}
-use Rattle.hgn.specs.Network.{Waiting, from-step, free, goalAt, noGoal, released, decomposed}
+use Rattle.hgn.specs.Network.{Waiting, used, free, goalAt, noGoal, released, decomposed}
 use Rattle.hgn.specs.Run.{Step, firstMethod, Move, release, act, use-method, moveOf, actionAt, noAction, noMethod, Problem, Rules, Decided, Deed, planOf, stepped, accepted, runBy, run}
 use Rattle.hgn.specs.Run as Run
 use Rattle.hgn.specs.Definition1.{Stands, Derivation, base, satisfaction, application, decomposition}
@@ -40,11 +40,11 @@ stands P l p h e =
 -- Definition 1's conditions on a move at the goal `t` of place `p` answer that move's questions.
 module _ (r : Rules) (dec : Decided r) (n : ℕ) (P : Problem) {p : ℕ} {t : Waiting} (a : At (P .waiting) p t) where
   moved-release : Satisfies (P .state) (t .formula)
-      → Moved r n P p release (Run.releases (goalAt (P .waiting) p ∷ [])) (record { state = P .state; waiting = released (P .waiting) p })
+      → Moved r n P p release (Run.releases (Run.leaving (P .waiting) (goalAt (P .waiting) p) ∷ [])) (record { state = P .state; waiting = released (P .waiting) p })
   moved-release =
       subst
       (λ (g : Waiting). Satisfies (P .state) (g .formula)
-      → Moved r n P p release (Run.releases (goalAt (P .waiting) p ∷ [])) (record { state = P .state; waiting = released (P .waiting) p }))
+      → Moved r n P p release (Run.releases (Run.leaving (P .waiting) (goalAt (P .waiting) p) ∷ [])) (record { state = P .state; waiting = released (P .waiting) p }))
       (at-getD noGoal a)
       (λ f. by-release (formula-holds-iff (P .state) _ .1 f))
 
@@ -58,15 +58,15 @@ module _ (r : Rules) (dec : Decided r) (n : ℕ) (P : Problem) {p : ℕ} {t : Wa
       (λ f g. by-action (all-hold-iff (P .state) _ .1 f) (dec .act-iff _ _ .1 g))
 
   moved-method : {k : ℕ} {m : Method} → At (r .domain .methods) k m → EntailsAll (P .state) (m .needs) → r .MayUse m (t .formula)
-      → length (decomposed (P .waiting) p (from-step n) (networkOf m)) ≤ r .limit
+      → length (decomposed (P .waiting) p (used n k) (networkOf m)) ≤ r .limit
       → Moved r n P p (use-method k) (Run.uses k (goalAt (P .waiting) p))
-      (record { state = P .state; waiting = decomposed (P .waiting) p (from-step n) (networkOf m) })
+      (record { state = P .state; waiting = decomposed (P .waiting) p (used n k) (networkOf m) })
   moved-method {k} c =
       subst₂
       (λ (y : Method) (g : Waiting). EntailsAll (P .state) (y .needs) → r .MayUse y (g .formula)
-      → length (decomposed (P .waiting) p (from-step n) (networkOf y)) ≤ r .limit
+      → length (decomposed (P .waiting) p (used n k) (networkOf y)) ≤ r .limit
       → Moved r n P p (use-method k) (Run.uses k (goalAt (P .waiting) p))
-      (record { state = P .state; waiting = decomposed (P .waiting) p (from-step n) (networkOf y) }))
+      (record { state = P .state; waiting = decomposed (P .waiting) p (used n k) (networkOf y) }))
       (at-getD noMethod c) (at-getD noGoal a)
       (λ f g l. by-method (all-hold-iff (P .state) _ .1 f) (dec .use-iff _ _ .1 g) l)
 

@@ -10,9 +10,9 @@ use Rattle.hgn.specs.Questions.{Failure, Verdict, passed, firstNo}
 use Rattle.hgn.specs.Questions as Questions
 use Rattle.hgn.specs.Meaning.{networkOf}
 use Rattle.hgn.specs.State.{γ, allHold, formulaHolds}
-use Rattle.hgn.specs.Network.{Waiting, from-step, free, anyFree, goalAt, noGoal, released, decomposed}
+use Rattle.hgn.specs.Network.{Waiting, used, free, anyFree, goalAt, noGoal, released, decomposed}
 use Rattle.hgn.specs.Run.{Step, Move, release, act, use-method, unknown, moveOf, known, actionAt, methodAt}
-use Rattle.hgn.specs.Run.{Problem, Rules, moved, ownQuestions, stepQuestions, Deed, releases, deedOf, refused, taken, stepped}
+use Rattle.hgn.specs.Run.{Problem, Rules, moved, ownQuestions, stepQuestions, Deed, releases, leaving, deedOf, refused, taken, stepped}
 use Rattle.hgn.specs.Run as Run
 use Rattle.hgn.proofs.Logic.Tests.{true-any, at-of-lt, at-mem}
 use Rattle.hgn.proofs.Questions.FirstNo.{passed-cons}
@@ -31,15 +31,15 @@ module _ {deed deed′ : Deed} {P P′ : Problem} (e : taken deed P ≡ taken de
 -- The answers to a move's own questions at place `p`, what it did, and the problem that it leaves.
 pub data Moved (r : Rules) (n : ℕ) (P : Problem) (p : ℕ) : Move → Deed → Problem → Type 0 where
   by-release : formulaHolds (P .state) (goalAt (P .waiting) p .formula) ≡ true
-      → Moved r n P p release (releases (goalAt (P .waiting) p ∷ [])) (record { state = P .state; waiting = released (P .waiting) p })
+      → Moved r n P p release (releases (leaving (P .waiting) (goalAt (P .waiting) p) ∷ [])) (record { state = P .state; waiting = released (P .waiting) p })
   by-action : {k : ℕ} → allHold (P .state) (actionAt (r .domain) k .needs) ≡ true
       → r .mayAct (actionAt (r .domain) k) (goalAt (P .waiting) p .formula) ≡ true
       → Moved r n P p (act k) (Run.takes k) (record { state = γ (P .state) (actionAt (r .domain) k .effects); waiting = P .waiting })
   by-method : {m : ℕ} → allHold (P .state) (methodAt (r .domain) m .needs) ≡ true
       → r .mayUse (methodAt (r .domain) m) (goalAt (P .waiting) p .formula) ≡ true
-      → length (decomposed (P .waiting) p (from-step n) (networkOf (methodAt (r .domain) m))) ≤ r .limit
+      → length (decomposed (P .waiting) p (used n m) (networkOf (methodAt (r .domain) m))) ≤ r .limit
       → Moved r n P p (use-method m) (Run.uses m (goalAt (P .waiting) p))
-      (record { state = P .state; waiting = decomposed (P .waiting) p (from-step n) (networkOf (methodAt (r .domain) m)) })
+      (record { state = P .state; waiting = decomposed (P .waiting) p (used n m) (networkOf (methodAt (r .domain) m)) })
 
 pub record Took (r : Rules) (n : ℕ) (P : Problem) (x : Step) (deed : Deed) (P′ : Problem) : Type 0 where
   pub inside : x .place < length (P .waiting)

@@ -21,7 +21,7 @@ pub data Stops (r : Rules) (P₀ : Problem) (xs : List Step) (f : Failure) : Typ
       → f ≡ failedAt i g → Stops r P₀ xs f
   at-end : f .refusal .number ≡ 33 → Stops r P₀ xs f
 
-at-middle : (ys : List Step) (x : Step) (xs : List Step) → At (ys ++ (x ∷ xs)) (length ys) x
+pub at-middle : (ys : List Step) (x : Step) (xs : List Step) → At (ys ++ (x ∷ xs)) (length ys) x
 at-middle [] x xs = here
 at-middle (y ∷ ys) x xs = there (at-middle ys x xs)
 

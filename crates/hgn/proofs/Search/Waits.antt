@@ -9,7 +9,7 @@ use lib.ListN.{length, length-append, length-take, length-drop}
 use Rattle.hgn.specs.Lists.{all}
 use Rattle.hgn.specs.Meaning.{Node, networkOf}
 use Rattle.hgn.specs.State.{State, formulaHolds}
-use Rattle.hgn.specs.Network.{Origin, from-step, Waiting, noGoal, released, decomposed}
+use Rattle.hgn.specs.Network.{Source, used, Waiting, noGoal, released, decomposed}
 use Rattle.hgn.specs.Run.{Step, Move, methodAt, Problem, Rules, Deed, runBy}
 use Rattle.hgn.proofs.Logic.Tests.{all-true, true-all, at-of-lt}
 use Rattle.hgn.proofs.Run.Steps.{Moved, by-release, by-action, by-method, took}
@@ -22,7 +22,7 @@ pub one-released : (w : List Waiting) (p : ℕ) → p < length w → suc (length
 unfolding released
 one-released w p h = simp (length-append, length-take, length-drop) (omega arith)
 
-pub none-lost : (w : List Waiting) (p : ℕ) (o : Origin) (nodes : List Node) → p < length w → length w ≤ length (decomposed w p o nodes)
+pub none-lost : (w : List Waiting) (p : ℕ) (o : Source) (nodes : List Node) → p < length w → length w ≤ length (decomposed w p o nodes)
 unfolding decomposed
 none-lost w p o nodes h = simp (length-append, length-take, length-drop) (omega arith)
 
@@ -31,7 +31,7 @@ module _ {r : Rules} {n : ℕ} {P : Problem} {p : ℕ} (h : p < length (P .waiti
   one-less : {m : Move} {deed : Deed} {P′ : Problem} → Moved r n P p m deed P′ → length (P .waiting) ≤ suc (length (P′ .waiting))
   one-less (by-release f) = omega (arith, one-released (P .waiting) p h)
   one-less (by-action f g) = omega arith
-  one-less (by-method {m} f g b) = omega (arith, none-lost (P .waiting) p (from-step n) (networkOf (methodAt (r .domain) m)) h)
+  one-less (by-method {m} f g b) = omega (arith, none-lost (P .waiting) p (used n m) (networkOf (methodAt (r .domain) m)) h)
 
 pub waits-at-most : (r : Rules) (n : ℕ) (P : Problem) (xs : List Step) → Runs r n P xs → length (P .waiting) ≤ length xs
 unfolding runBy
@@ -64,4 +64,4 @@ waits-all-hold r n P (x ∷ xs) h e =
         ⊎-elim (λ q. ap (λ (g : Waiting). formulaHolds (P .state) (g .formula)) q ∙ f)
         (all-true (λ g. formulaHolds (P .state) (g .formula)) (released (P .waiting) p) rest) (stays (at-of-lt (P .waiting) p noGoal h) m)
     go {p} h (by-action f k) l ih = absurd (omega arith)
-    go {p} h (by-method {m} f k b) l ih = absurd (omega (arith, none-lost (P .waiting) p (from-step n) (networkOf (methodAt (r .domain) m)) h))
+    go {p} h (by-method {m} f k b) l ih = absurd (omega (arith, none-lost (P .waiting) p (used n m) (networkOf (methodAt (r .domain) m)) h))
