@@ -55,7 +55,7 @@ pub record OfSearch (shop sheet : List ℕ) (depth : ℕ) (room left answer : Li
 -- The replay's call on the sheet that the join's call left in `left`, whatever it is handed: the join rule of that sheet.
 abbrev pub RuleOfLeft : List ℕ → List ℕ → List ℕ → List ℕ → Type 0
 RuleOfLeft shop first second left = (trace room plan answer atoms : List ℕ) → ReplayLeft (replay shop (sheetIn left) trace room) plan answer atoms
-    → RuleOfSheet shop first second trace room (replayedIn plan answer atoms)
+    → RuleOfSheet shop first second (sheetIn left) trace room (replayedIn plan answer atoms)
 
 -- What a caller of the join may rely on.
 pub record OfJoin (shop first second room left answer : List ℕ) : Type 0 where

@@ -15,7 +15,7 @@ use Rattle.hgn.specs.Rows.{Row, row, has, valuesTagged, mostRows}
 use Rattle.hgn.specs.Tag as Tag
 use Rattle.hgn.specs.Meaning.{Node, networkOf, lastAfterAll}
 use Rattle.hgn.specs.Network as Network
-use Rattle.hgn.specs.Network.{mostWaiting, from-step, goalAt, free, enter, decomposed}
+use Rattle.hgn.specs.Network.{mostWaiting, used, goalAt, free, enter, decomposed}
 use Rattle.hgn.specs.Run.{methodAt}
 use Rattle.hgn.specs.Shop.{domain, methodCount}
 use Rattle.hgn.proofs.Join.Embedding.{take-map, drop-map}
@@ -120,7 +120,7 @@ module _ (shop order tables : List ℕ) (network : Entering) (bs : List Bounds) 
 
     -- The next node.
     abbrev node : Entry
-    node = entryOf (sheetOf (network .origin)) (network .origin) (network .parent) (network .method) (network .end .0) number (record { from = row; to = getD tables row 0 })
+    node = entryOf (sheetOf (network .origin)) (network .origin) (network .method) (network .parent) (network .end .0) number (record { from = row; to = getD tables row 0 })
 
     pub writing-more : (pending : ℕ) → pending ≡ length (waitingOf shop order node .after) → {ws″ : List ℕ} → Put (p + number) node pending ws′ ws″
         → Writing shop order tables network bs p ws ws″ (number + 1) (getD tables row 0)
@@ -143,9 +143,9 @@ module _ (shop order tables : List ℕ) (network : Entering) (bs : List Bounds) 
               (goals-same ws″ ws′ p p number (λ k l. same-entry ws″ (p + k) ws′ (p + k) (λ f g. same k f l (omega arith))) ∙ v .goals)
               (one-goal ws″ (p + number) (put .entry))
               ∙ ap {B = List Entry} (λ (j : ℕ). nodeEntries network (v .done)
-              ++ (entryOf (sheetOf (network .origin)) (network .origin) (network .parent) (network .method) (network .end .0) j (record { from = row; to = getD tables row 0 }) ∷ []))
+              ++ (entryOf (sheetOf (network .origin)) (network .origin) (network .method) (network .parent) (network .end .0) j (record { from = row; to = getD tables row 0 }) ∷ []))
               (v .count ∙ sym (zero-add (length (v .done))))
-              ∙ sym (entries-more (sheetOf (network .origin)) (network .origin) (network .parent) (network .method) (network .end .0) 0 (v .done) (record { from = row; to = getD tables row 0 }));
+              ∙ sym (entries-more (sheetOf (network .origin)) (network .origin) (network .method) (network .parent) (network .end .0) 0 (v .done) (record { from = row; to = getD tables row 0 }));
           counts = λ k l. go k l (eqb k number) refl same;
         }
       where
@@ -223,7 +223,7 @@ nodes-begun shop order network bs ws b count size is few written =
 -- A method used at step `n` at the goal of place `p`, whose name is `g`.
 module _ {shop order tables : List ℕ} (ix : Indexed shop order tables) {m : ℕ} (known : m < methodCount shop) {rows : MethodRows} (at : MethodAt shop order tables m rows)
     (n : ℕ) (step-is : n < orderOrigin) (p : ℕ) (ws a b : List ℕ) (w : Within ws) (inside : p < countIn ws) (fits : countIn ws + length (at .bs) ≤ mostWaiting)
-    (network : Entering) (origin : network .origin ≡ n) (parent : network .parent ≡ entryIn ws p .name) (method : network .method ≡ true) (end : network .end .0 ≡ rows .end .0)
+    (network : Entering) (origin : network .origin ≡ n) (method : network .method ≡ m) (parent : network .parent ≡ entryIn ws p .name) (end : network .end .0 ≡ rows .end .0)
     (opened : OpenedWords p (length (at .bs)) ws a) (written : NodesWritten shop order network (at .bs) p a b) where
   abbrev more : ℕ
   more = length (at .bs)
@@ -253,20 +253,20 @@ module _ {shop order tables : List ℕ} (ix : Indexed shop order tables) {m : �
   goals-last : goalsIn last ≡ goalsIn b
   goals-last = ap (goalsFrom last 0) count-last ∙ goals-same last b 0 0 (countIn b) (λ k h. entry-last (0 + k))
 
-  list-last : listIn shop order last ≡ decomposed (listIn shop order ws) p (from-step n) (networkOf (methodAt (domain shop) m))
+  list-last : listIn shop order last ≡ decomposed (listIn shop order ws) p (used n m) (networkOf (methodAt (domain shop) m))
   unfolding decomposed networkOf waitingOf
   list-last =
       let l = goalsIn ws in
       let name : nameOf (network .parent) ≡ goalAt (listIn shop order ws) p .name =
       ap nameOf parent ∙ sym (ap (λ (x : Network.Waiting). x .name) (list-at shop order ws p inside)) in
-      let news : nodeEntries network (at .bs) ≡ entriesFrom Of.Shop n (network .parent) true (rows .end .0) 0 (at .bs) = rw (origin, method, end, ne-eqb n orderOrigin (λ z. omega arith)) refl in
+      let news : nodeEntries network (at .bs) ≡ entriesFrom Of.Shop n m (network .parent) (rows .end .0) 0 (at .bs) = rw (origin, method, end, ne-eqb n orderOrigin (λ z. omega arith)) refl in
       ap (map (waitingOf shop order)) (goals-last ∙ goals-entered shop order network (at .bs) p ws a b w (omega arith) fits opened written)
       ∙ map-append (waitingOf shop order) (take p l) (nodeEntries network (at .bs) ++ drop p l)
       ∙ ap₂ {C = List Network.Waiting} (λ x y. x ++ y) (sym (take-map (waitingOf shop order) p l))
       (map-append (waitingOf shop order) (nodeEntries network (at .bs)) (drop p l)
       ∙ ap₂ {C = List Network.Waiting} (λ x y. x ++ y)
-      (ap (map (waitingOf shop order)) news ∙ method-enters shop order Of.Shop n (network .parent) 0 (λ z. absurd (omega arith)) (at .walk)
-      ∙ ap₂ {C = List Network.Waiting} (λ (q : Network.Name) (ns : List Node). enter (Network.from-step n) (some q) 0 (lastAfterAll 0 ns)) name (at .nodes))
+      (ap (map (waitingOf shop order)) news ∙ method-enters shop order Of.Shop n m (network .parent) 0 (λ z. absurd (omega arith)) (at .walk)
+      ∙ ap₂ {C = List Network.Waiting} (λ (q : Network.Name) (ns : List Node). enter (used n m) (some q) 0 (lastAfterAll 0 ns)) name (at .nodes))
       (sym (drop-map (waitingOf shop order) p l)))
 
   size-last : length (listIn shop order last) ≡ countIn ws + more

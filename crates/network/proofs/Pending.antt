@@ -14,7 +14,7 @@ use lib.Seq.{split-at}
 use borrow.Author.Tests.{eqb-true, eqb-false, ne-eqb}
 use Rattle.hgn.specs.Lists.{any, elem}
 use Rattle.hgn.specs.Meaning.{Node}
-use Rattle.hgn.specs.Network.{Origin, from-step, Name, Waiting, sameOrigin, isParent, comesAfter, free, enter, goalAt, noGoal, released}
+use Rattle.hgn.specs.Network.{from-step, Name, Source, used, originOf, Waiting, sameOrigin, isParent, comesAfter, free, enter, goalAt, noGoal, released}
 use Rattle.hgn.specs.Definition1.{ComesAfter}
 use Rattle.hgn.proofs.Logic.Tests.{not-true-false, comes-after-iff, eq-same-origin, same-origin-true, is-parent-iff}
 use Rattle.hgn.proofs.Sheets.Checked.{Numbered}
@@ -124,10 +124,10 @@ found-all n (k ∷ ks) h =
     ∙ ap suc (found-all n ks (λ x m. h x (List·Memᴰ·tail m)))
 
 -- Of nodes that enter, what a goal of their network counts, and what the goal counts at which they enter.
-module _ (q : Waiting) (o : Origin) (parent : Option Name) where
+module _ (q : Waiting) (o : Source) (parent : Option Name) where
   -- Node `i` as it enters.
   abbrev node : ℕ → Node → Waiting
-  node i n = record { name = record { origin = o; number = i }; parent = parent; after = n .after; formula = n .formula }
+  node i n = record { name = record { origin = originOf o; number = i }; source = o; parent = parent; after = n .after; formula = n .formula }
 
   of-network : (p : Waiting) → sameOrigin (q .name .origin) (p .name .origin) ≡ true → isParent (q .name) (p .parent) ≡ false
       → timesListed q p ≡ occurrences (p .name .number) (q .after)
@@ -142,30 +142,30 @@ module _ (q : Waiting) (o : Origin) (parent : Option Name) where
   unfolding timesListed
   of-subgoal p e f = rw (e, f)
 
-  pending-network : sameOrigin (q .name .origin) o ≡ true → isParent (q .name) parent ≡ false → (i : ℕ) (ns : List Node)
+  pending-network : sameOrigin (q .name .origin) (originOf o) ≡ true → isParent (q .name) parent ≡ false → (i : ℕ) (ns : List Node)
       → pending (enter o parent i ns) q ≡ found i (length ns) (q .after)
   unfolding pending enter found
   pending-network e f i [] = refl
   pending-network e f i (n ∷ ns) = omega (arith, of-network (node i n) e f, pending-network e f (suc i) ns)
 
-  pending-subgoals : sameOrigin (q .name .origin) o ≡ false → isParent (q .name) parent ≡ true → (i : ℕ) (ns : List Node)
+  pending-subgoals : sameOrigin (q .name .origin) (originOf o) ≡ false → isParent (q .name) parent ≡ true → (i : ℕ) (ns : List Node)
       → pending (enter o parent i ns) q ≡ length ns
   unfolding pending enter
   pending-subgoals e f i [] = refl
   pending-subgoals e f i (n ∷ ns) = omega (arith, of-subgoal (node i n) e f, pending-subgoals e f (suc i) ns)
 
 -- A node that enters comes after nodes that enter with it.
-node-afters : (o : Origin) (parent : Option Name) (i : ℕ) (ns : List Node) → Numbered i ns → (q : Waiting) → List·Memᴰ q (enter o parent i ns)
+node-afters : (o : Source) (parent : Option Name) (i : ℕ) (ns : List Node) → Numbered i ns → (q : Waiting) → List·Memᴰ q (enter o parent i ns)
     → (k : ℕ) → List·Memᴰ k (q .after) → k < i + length ns
 unfolding enter
 node-afters o parent i [] h q m k j = absurd (List·Memᴰ·not-nil m)
 node-afters o parent i (n ∷ ns) h q m k j =
     ⊎-elim now (λ l. let z = node-afters o parent (suc i) ns (h .1) q l k j in omega arith) (List·Memᴰ·cases-cons m)
   where
-    now : q ≡ record { name = record { origin = o; number = i }; parent = parent; after = n .after; formula = n .formula } → k < i + length (n ∷ ns)
+    now : q ≡ record { name = record { origin = originOf o; number = i }; source = o; parent = parent; after = n .after; formula = n .formula } → k < i + length (n ∷ ns)
     now e = let z = h .0 k (subst (λ (x : Waiting). List·Memᴰ k (x .after)) e j) in omega arith
 
-pub pending-entered : (o : Origin) (parent : Option Name) (ns : List Node) → Numbered 0 ns → ((a : Name) → parent ≡ some a → a .origin ≢ o)
+pub pending-entered : (o : Source) (parent : Option Name) (ns : List Node) → Numbered 0 ns → ((a : Name) → parent ≡ some a → a .origin ≢ originOf o)
     → (q : Waiting) → List·Memᴰ q (enter o parent 0 ns) → pending (enter o parent 0 ns) q ≡ length (q .after)
 pending-entered o parent ns h outside q m =
     let r = entered {i = 0} ns m in
@@ -173,23 +173,23 @@ pending-entered o parent ns h outside q m =
     (not-true-false (isParent (q .name) parent) (λ e. outside (q .name) (is-parent-iff (q .name) parent .0 e) (r .its-origin))) 0 ns
     ∙ found-all (length ns) (q .after) (λ k j. let z = node-afters o parent 0 ns h q m k j in omega arith)
 
--- A method's nodes enter at a goal `t`.
-module _ {n : ℕ} {w : List Waiting} (h : Named n w) (ns : List Node) (t : Waiting) (m : List·Memᴰ t w) where
+-- The nodes of method `i` enter at a goal `t`.
+module _ {n : ℕ} {w : List Waiting} (h : Named n w) (i : ℕ) (ns : List Node) (t : Waiting) (m : List·Memᴰ t w) where
   abbrev new : List Waiting
-  new = enter (from-step n) (some (t .name)) 0 ns
+  new = enter (used n i) (some (t .name)) 0 ns
 
   -- The goal comes after each of them, no other waiting goal does, and they come after no waiting goal.
   pub pending-parent : pending new t ≡ length ns
   pending-parent =
-      pending-subgoals t (from-step n) (some (t .name))
+      pending-subgoals t (used n i) (some (t .name))
       (not-true-false (sameOrigin (t .name .origin) (from-step n)) (λ e. lt-irrefl n (h .fresh t m .by-name n (same-origin-true _ _ e))))
       (is-parent-iff (t .name) (some (t .name)) .1 refl) 0 ns
 
   pub pending-other : (q : Waiting) → List·Memᴰ q w → q .name ≢ t .name → pending new q ≡ 0
-  pending-other q k d = pending-none q new (λ e j l. d (strangers ns h q e k j .before-parent l))
+  pending-other q k d = pending-none q new (λ e j l. d (strangers i ns h q e k j .before-parent l))
 
   pub pending-waiting : (e : Waiting) → List·Memᴰ e new → pending w e ≡ 0
-  pending-waiting e j = pending-none e w (λ q k. strangers ns h q e k j .not-after)
+  pending-waiting e j = pending-none e w (λ q k. strangers i ns h q e k j .not-after)
 
   pub pending-new : Numbered 0 ns → (e : Waiting) → List·Memᴰ e new → pending new e ≡ length (e .after)
-  pending-new c e j = pending-entered (from-step n) (some (t .name)) ns c (parent-outside h m) e j
+  pending-new c e j = pending-entered (used n i) (some (t .name)) ns c (parent-outside h m) e j

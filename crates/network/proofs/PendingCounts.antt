@@ -17,7 +17,7 @@ use Rattle.hgn.specs.Shop.{domain, methodCount}
 use Rattle.hgn.specs.Order as OrderSheet
 use Rattle.hgn.specs.Order.{checkOrder}
 use Rattle.hgn.specs.Questions.{passed}
-use Rattle.hgn.specs.Network.{Waiting, from-order, from-step, free, enter, goalsOf, goalAt, noGoal, released, decomposed}
+use Rattle.hgn.specs.Network.{order, used, Waiting, free, enter, goalsOf, goalAt, noGoal, released, decomposed}
 use Rattle.hgn.specs.Definition1.{ComesAfter}
 use Rattle.hgn.proofs.Logic.Tests.{at-mem, at-of-lt}
 use Rattle.hgn.proofs.Network.Waiting.{length-enter, goal-mem}
@@ -57,7 +57,7 @@ counted-start o h c r f k b =
     ap (λ (j : ℕ). getD r j 0) (sym e)
     ∙ f .filled k b
     ∙ ap (λ (j : ℕ). length (goalAt (goalsOf o) j .after)) e
-    ∙ sym (pending-entered from-order none (o .goals) h (λ a z. absurd (Option·none-ne-some a z)) (goalAt (goalsOf o) k) (goal-mem (goalsOf o) k b))
+    ∙ sym (pending-entered order none (o .goals) h (λ a z. absurd (Option·none-ne-some a z)) (goalAt (goalsOf o) k) (goal-mem (goalsOf o) k b))
 
 -- A release.
 module _ (w : List Waiting) (p : ℕ) (h : p < length w) where
@@ -98,10 +98,10 @@ module _ (w : List Waiting) (p : ℕ) (h : p < length w) where
   pub counted-left : {w′ : List Waiting} → w′ ≡ released w p → Ordered w → (c r : List ℕ) → PendingCounts w c → Released w p c r → PendingCounts w′ r
   counted-left e o c r v s = subst (λ (l : List Waiting). PendingCounts l r) (sym e) (counted-released o c r v s)
 
--- A method.
-module _ (w : List Waiting) (p n : ℕ) (ns : List Node) (h : p < length w) where
+-- Method `i`.
+module _ (w : List Waiting) (p n i : ℕ) (ns : List Node) (h : p < length w) where
   abbrev new : List Waiting
-  new = enter (from-step n) (some (goalAt w p .name)) 0 ns
+  new = enter (used n i) (some (goalAt w p .name)) 0 ns
 
   abbrev grown : List Waiting
   grown = take p w ++ (new ++ drop p w)
@@ -116,22 +116,22 @@ module _ (w : List Waiting) (p n : ℕ) (ns : List Node) (h : p < length w) wher
       ap (λ (j : ℕ). getD grown j noGoal) e ∙ getD-append-add (take p w) (new ++ drop p w) k noGoal
 
   in-new : (k : ℕ) → k < length ns → goalAt grown (p + k) ≡ goalAt new k
-  in-new k b = from-new k ∙ List·getD-append new (drop p w) noGoal k (omega (arith, length-enter (from-step n) (some (goalAt w p .name)) 0 ns))
+  in-new k b = from-new k ∙ List·getD-append new (drop p w) noGoal k (omega (arith, length-enter (used n i) (some (goalAt w p .name)) 0 ns))
 
   behind-new : (k : ℕ) → p ≤ k → goalAt grown (k + length ns) ≡ goalAt w k
   behind-new k b =
-      let l = length-enter (from-step n) (some (goalAt w p .name)) 0 ns in
+      let l = length-enter (used n i) (some (goalAt w p .name)) 0 ns in
       let e : k + length ns ≡ p + (length new + (k - p)) = omega (arith, l) in
       let m : p + (k - p) ≡ k = omega arith in
       ap (goalAt grown) e ∙ from-new (length new + (k - p)) ∙ getD-append-add new (drop p w) (k - p) noGoal ∙ getD-drop p w (k - p) noGoal ∙ ap (goalAt w) m
 
   grown-length : length grown ≡ length w + length ns
-  grown-length = simp (length-append, length-take, length-drop) (omega (arith, length-enter (from-step n) (some (goalAt w p .name)) 0 ns))
+  grown-length = simp (length-append, length-take, length-drop) (omega (arith, length-enter (used n i) (some (goalAt w p .name)) 0 ns))
 
   module _ (v : Named n w) (c r : List ℕ) (counted : PendingCounts w c) where
     -- A waiting goal but the one that they enter at counts what it counted.
     still : (k : ℕ) → k < length w → goalAt w k .name ≢ goalAt w p .name → getD c k 0 ≡ pending grown (goalAt w k)
-    still k b d = omega (arith, counted k b, pending-inserted (goalAt w k) w new p, pending-other v ns (goalAt w p) (goal-mem w p h) (goalAt w k) (goal-mem w k b) d)
+    still k b d = omega (arith, counted k b, pending-inserted (goalAt w k) w new p, pending-other v i ns (goalAt w p) (goal-mem w p h) (goalAt w k) (goal-mem w k b) d)
 
     counted-decomposed : Numbered 0 ns → free w (goalAt w p) ≡ true → Entered grown p (length ns) c r → PendingCounts grown r
     counted-decomposed numbered fr e k b = go (ltb k p) refl (ltb k (p + length ns)) refl (eqb k (p + length ns)) refl
@@ -139,13 +139,13 @@ module _ (w : List Waiting) (p n : ℕ) (ns : List Node) (h : p < length w) wher
         here : getD r (p + length ns) 0 ≡ pending grown (goalAt w p)
         here =
             let z = eqb-true (pending w (goalAt w p)) 0 (none-pending w (goalAt w p) ∙ fr) in
-            omega (arith, e .goal, z, pending-inserted (goalAt w p) w new p, pending-parent v ns (goalAt w p) (goal-mem w p h))
+            omega (arith, e .goal, z, pending-inserted (goalAt w p) w new p, pending-parent v i ns (goalAt w p) (goal-mem w p h))
 
         inside : (j : ℕ) → j < length ns → getD r (p + j) 0 ≡ pending grown (goalAt grown (p + j))
         inside j a =
-            let m = goal-mem new j (omega (arith, length-enter (from-step n) (some (goalAt w p .name)) 0 ns)) in
-            let x = pending-waiting v ns (goalAt w p) (goal-mem w p h) (goalAt new j) m in
-            let y = pending-new v ns (goalAt w p) (goal-mem w p h) numbered (goalAt new j) m in
+            let m = goal-mem new j (omega (arith, length-enter (used n i) (some (goalAt w p .name)) 0 ns)) in
+            let x = pending-waiting v i ns (goalAt w p) (goal-mem w p h) (goalAt new j) m in
+            let y = pending-new v i ns (goalAt w p) (goal-mem w p h) numbered (goalAt new j) m in
             let g = in-new j a in
             e .nodes j a ∙ ap (λ (q : Waiting). length (q .after)) g ∙ omega (arith, x, y, pending-inserted (goalAt new j) w new p) ∙ ap (pending grown) (sym g)
 
@@ -180,10 +180,10 @@ module _ {shop sheet table : List ℕ} (i : Indexed shop sheet table) (m : ℕ) 
       let passes = shop-of-order shop sheet (i .checked) in
       method-numbered shop passes _ (at-mem (at-of-lt (domain shop .methods) m noMethod (omega (arith, shop-counts shop passes .1))))
 
-  module _ (w : List Waiting) (p n : ℕ) (inside : p < length w) {w′ : List Waiting} (e : w′ ≡ decomposed w p (from-step n) (networkOf (methodAt (domain shop) m))) where
+  module _ (w : List Waiting) (p n : ℕ) (inside : p < length w) {w′ : List Waiting} (e : w′ ≡ decomposed w p (used n m) (networkOf (methodAt (domain shop) m))) where
     pub length-decomposed : length w′ ≡ length w + length (networkOf (methodAt (domain shop) m))
     unfolding decomposed
-    length-decomposed = ap length e ∙ grown-length w p n _ inside
+    length-decomposed = ap length e ∙ grown-length w p n m _ inside
 
     -- Their counts, read of the list that they entered.
     pub counted-grown : (more : ℕ) → more ≡ length (networkOf (methodAt (domain shop) m)) → Named n w → free w (goalAt w p) ≡ true → (c r : List ℕ) → PendingCounts w c
@@ -191,7 +191,7 @@ module _ {shop sheet table : List ℕ} (i : Indexed shop sheet table) (m : ℕ) 
     unfolding decomposed
     counted-grown more z v fr c r counted s =
         subst (λ (l : List Waiting). PendingCounts l r) (sym e)
-        (counted-decomposed w p n _ inside v c r counted nodes-numbered fr
+        (counted-decomposed w p n m _ inside v c r counted nodes-numbered fr
         (subst (λ (l : List Waiting). Entered l p (length (networkOf (methodAt (domain shop) m))) c r) e (subst (λ (k : ℕ). Entered w′ p k c r) z s)))
 
 -- The counts of an order's goals, read of the list that they are.

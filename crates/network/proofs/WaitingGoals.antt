@@ -40,7 +40,7 @@ unfolding entryFrom
 same-entry ws p ws′ q same =
     let first : getD ws (startOf p) 0 ≡ getD ws′ (startOf q) 0 =
     ap (λ (k : ℕ). getD ws k 0) (sym (add-zero (startOf p))) ∙ same 0 (omega arith) ∙ ap (λ (k : ℕ). getD ws′ k 0) (add-zero (startOf q)) in
-    rw (first, same 1 (omega arith), same 2 (omega arith), same 3 (omega arith), same 4 (omega arith), same 5 (omega arith), same 6 (omega arith)) refl
+    rw (first, same 1 (omega arith), same 2 (omega arith), same 3 (omega arith), same 4 (omega arith), same 5 (omega arith), same 6 (omega arith), same 7 (omega arith)) refl
 
 module _ (ws : List ℕ) where
   pub goals-length : (i n : ℕ) → length (goalsFrom ws i n) ≡ n

@@ -55,7 +55,7 @@ module _ (ws : List ℕ) (p : ℕ) (e : Entry) (pending : ℕ) (size : length ws
     (sheet : e .rows .sheet ≡ sheetOf (e .name .origin)) where
   abbrev words : ℕ → List ℕ
   words flag =
-      e .rows .from .0 ∷ e .rows .to .0 ∷ e .name .origin ∷ e .name .number ∷ e .parent .origin ∷ e .parent .number ∷ flag ∷ pending ∷ []
+      e .rows .from .0 ∷ e .rows .to .0 ∷ e .name .origin ∷ e .name .number ∷ e .parent .origin ∷ e .parent .number ∷ flag ∷ e .method ∷ pending ∷ []
 
   pub put-words : {flag at : ℕ} {ws′ : List ℕ} → flag ≡ cond (e .last) 1 0 → at ≡ startOf p → ws′ ≡ paste ws at (words flag) fields → Put p e pending ws ws′
   unfolding entryFrom
@@ -69,8 +69,19 @@ module _ (ws : List ℕ) (p : ℕ) (e : Entry) (pending : ℕ) (size : length ws
       record {
         size = ap length q ∙ length-paste ws (startOf p) (words (cond (e .last) 1 0)) fields fits (omega arith);
         entry =
-            rw (first, field 1 (omega arith), field 2 (omega arith), field 3 (omega arith), field 4 (omega arith), field 5 (omega arith), field 6 (omega arith), flag-is, ← sheet) refl;
-        count = field 7 (omega arith);
+            rw (
+              first,
+              field 1 (omega arith),
+              field 2 (omega arith),
+              field 3 (omega arith),
+              field 4 (omega arith),
+              field 5 (omega arith),
+              field 6 (omega arith),
+              field 7 (omega arith),
+              flag-is,
+              ← sheet,
+            ) refl;
+        count = field 8 (omega arith);
         before = λ k h. ap (λ (l : List ℕ). getD l k 0) q ∙ paste-before ws (startOf p) (words (cond (e .last) 1 0)) fields fits (omega arith) k h;
         behind = λ k h. ap (λ (l : List ℕ). getD l k 0) q ∙ paste-behind ws (startOf p) (words (cond (e .last) 1 0)) fields fits (omega arith) k (omega arith);
       }

@@ -17,7 +17,7 @@ use Rattle.network.specs.declared.waiting.Entry.{Entry}
 
 -- The origin that stands for the order.
 abbrev pub orderOrigin : ℕ
-orderOrigin = 65535
+orderOrigin = Network.orderNumber
 
 abbrev pub originOf : ℕ → Network.Origin
 originOf o = cond (eqb o orderOrigin) Network.from-order (Network.from-step o)
@@ -28,10 +28,15 @@ nameOf n = record { origin = originOf (n .origin); number = n .number }
 abbrev pub sameEntryName : Name → Name → Bool
 sameEntryName a b = eqb (a .origin) (b .origin) && eqb (a .number) (b .number)
 
+-- What brought a goal in: the order, or the step of its name with the method that it carries.
+abbrev pub sourceOf : Entry → Network.Source
+sourceOf e = cond (eqb (e .name .origin) orderOrigin) Network.order (Network.used (e .name .origin) (e .method))
+
 -- A waiting goal of the code, as the definitions have it.
 unfoldable pub waitingOf : List ℕ → List ℕ → Entry → Network.Waiting
 waitingOf shop order e = record {
   name = nameOf (e .name);
+  source = sourceOf e;
   parent = cond (eqb (e .name .origin) orderOrigin) none (some (nameOf (e .parent)));
   after = cond (e .last) (range 0 (e .name .number)) (Rows.valuesTagged Tag.after (spanRows shop order (e .rows)));
   formula = nodeOf (spanRows shop order (e .rows)) .formula;
@@ -42,6 +47,7 @@ abbrev pub noEntry : Entry
 noEntry = record {
   rows = spanOf Of.Order 0 0;
   name = record { origin = orderOrigin; number = 0 };
+  method = Network.orderNumber;
   parent = record { origin = orderOrigin; number = 0 };
   last = false;
 }

@@ -23,10 +23,10 @@ use Rattle.network.specs.Pending.{timesListed, PendingCounts}
 
 -- How many words a goal has, and which of them is its count; `entryFrom` says what the others are.
 abbrev pub fields : ℕ
-fields = 8
+fields = 9
 
 abbrev pub pendingField : ℕ
-pendingField = 7
+pendingField = 8
 
 -- The words of the most goals that may wait, and one for how many do.
 abbrev pub goalsWords : ℕ
@@ -51,6 +51,7 @@ unfoldable pub entryFrom : List ℕ → ℕ → Entry
 entryFrom ws at = record {
   rows = spanOf (sheetOf (getD ws (at + 2) 0)) (getD ws at 0) (getD ws (at + 1) 0);
   name = record { origin = getD ws (at + 2) 0; number = getD ws (at + 3) 0 };
+  method = getD ws (at + 7) 0;
   parent = record { origin = getD ws (at + 4) 0; number = getD ws (at + 5) 0 };
   last = eqb (getD ws (at + 6) 0) 1;
 }
@@ -124,7 +125,7 @@ pub record OpenedWords (p more : ℕ) (ws ws′ : List ℕ) : Type 0 where
 
 -- The nodes of a network as goals.
 abbrev pub nodeEntries : Entering → List Bounds → List Entry
-nodeEntries network bs = entriesFrom (sheetOf (network .origin)) (network .origin) (network .parent) (network .method) (network .end .0) 0 bs
+nodeEntries network bs = entriesFrom (sheetOf (network .origin)) (network .origin) (network .method) (network .parent) (network .end .0) 0 bs
 
 -- The nodes stand from place `p` on, each with the number of nodes that it is listed after; words outside their places are as they were.
 pub record NodesWritten (shop order : List ℕ) (network : Entering) (bs : List Bounds) (p : ℕ) (ws ws′ : List ℕ) : Type 0 where
@@ -137,7 +138,7 @@ pub record NodesWritten (shop order : List ℕ) (network : Entering) (bs : List 
 -- The nodes of method `m`, used at step `n`, have entered at place `p`, and the counts are right again.
 pub record Decomposed (shop order : List ℕ) (p n m : ℕ) (ws ws′ : List ℕ) : Type 0 where
   pub within : Within ws′
-  pub list : listIn shop order ws′ ≡ Network.decomposed (listIn shop order ws) p (Network.from-step n) (networkOf (methodAt (domain shop) m))
+  pub list : listIn shop order ws′ ≡ Network.decomposed (listIn shop order ws) p (Network.used n m) (networkOf (methodAt (domain shop) m))
   pub counted : PendingCounts (listIn shop order ws′) (countsIn ws′)
 
 -- The status of the goal at a place where one waits.

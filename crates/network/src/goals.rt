@@ -40,8 +40,8 @@ pub struct Goals {
 impl Goals {
     // The most goals that may wait.
     pub const MOST: u16 = 64;
-    // The words of a goal: its rows, its name, its parent's name, whether it is its method's last node, and its count.
-    pub const FIELDS: usize = 8;
+    // The words of a goal: its rows, its name, its parent's name, whether it is its method's last node, the method's number, and its count.
+    pub const FIELDS: usize = 9;
 
     const TO: usize = 1;
 
@@ -55,7 +55,9 @@ impl Goals {
 
     const LAST: usize = 6;
 
-    const PENDING: usize = 7;
+    const METHOD: usize = 7;
+
+    const PENDING: usize = 8;
     // The words of the most goals, and one for how many wait.
     pub const WORDS: usize = 1 + Self::MOST as usize * Self::FIELDS;
 
@@ -103,6 +105,7 @@ pub fn entry_at(goals: &[u16; Goals::WORDS], place: Place) -> Entry
             origin: origin,
             number: goals[at + Goals::NUMBER],
         },
+        method: goals[at + Goals::METHOD],
         parent: Name {
             origin: goals[at + Goals::PARENT_ORIGIN],
             number: goals[at + Goals::PARENT_NUMBER],
@@ -168,6 +171,7 @@ pub fn put(goals: &mut [u16; Goals::WORDS], place: Place, entry: Entry, pending:
         parent.origin,
         parent.number,
         last,
+        entry.method,
         pending,
     ];
     write_words(goals, start_of(place), words);
@@ -259,20 +263,21 @@ fn open_gap(goals: &mut [u16; Goals::WORDS], place: Place, more: u16)
     goals[0] = count + more;
 }
 
-// The nodes of a network that enter the list: its origin and parent, whether it is a method's, whose last node comes after all the others,
-// the rows in which they stand, and how many they are.
+// The nodes of a network that enter the list: its origin, the method whose network it is (`Name::ORDER` for the order's), its parent, the
+// rows in which the nodes stand, and how many they are.
 pub struct Entering {
     pub origin: u16,
+    pub method: u16,
     pub parent: Name,
-    pub method: bool,
     pub first: Row,
     pub end: Row,
     pub count: u16,
 }
 
-// The node with these rows as waiting goal `number` of its network; a method's last node ends where the method ends.
+// The node with these rows as waiting goal `number` of its network. A method's last node, which comes after all the others, ends where the
+// method ends.
 fn node_entry(network: Entering, from: Row, to: Row, number: u16) -> Entry
-    ensures { λ r. ⌜ r ≡ entryOf (sheetOf (network .origin)) (network .origin) (network .parent) (network .method) (network .end .0) number (record { from = from .0; to = to .0 }) ⌝ }
+    ensures { λ r. ⌜ r ≡ entryOf (sheetOf (network .origin)) (network .origin) (network .method) (network .parent) (network .end .0) number (record { from = from .0; to = to .0 }) ⌝ }
 {
     let sheet = sheet_of(network.origin);
     let rows = Span {
@@ -285,20 +290,22 @@ fn node_entry(network: Entering, from: Row, to: Row, number: u16) -> Entry
         number: number,
     };
     let parent = network.parent;
-    if network.method {
-        let end = network.end;
+    if network.origin == Name::ORDER {
         return Entry {
             rows: rows,
             name: name,
+            method: network.method,
             parent: parent,
-            last: to.0 == end.0,
+            last: false,
         };
     }
+    let end = network.end;
     Entry {
         rows: rows,
         name: name,
+        method: network.method,
         parent: parent,
-        last: false,
+        last: to.0 == end.0,
     }
 }
 
@@ -367,8 +374,8 @@ pub fn decompose<'a>(
     let parent = goal.name;
     let network = Entering {
         origin: number,
+        method: method,
         parent: parent,
-        method: true,
         first: first,
         end: end,
         count: nodes.count,

@@ -14,17 +14,19 @@ pub struct Name {
     pub number: u16,
 }
 
-// A waiting goal: its rows, its name, the name of the goal at which its method was used (of no meaning for a goal of the order),
+// A waiting goal: its rows, its name, the number of the method that brought it in (from 0, `Name::ORDER` for a goal of the order; the step
+// that used the method is its name's origin), the name of the goal at which that method was used (of no meaning for a goal of the order),
 // and whether it is its method's last node, which comes after all the others.
 pub struct Entry {
     pub rows: Span,
     pub name: Name,
+    pub method: u16,
     pub parent: Name,
     pub last: bool,
 }
 
 impl Name {
-    // The origin of a goal of the order.
+    // The origin of a goal of the order, and the number that it carries for a method.
     pub const ORDER: u16 = 65535;
 
     pub fn same(self, other: Name) -> bool
@@ -52,6 +54,7 @@ impl Entry {
                 origin: Name::ORDER,
                 number: 0,
             },
+            method: Name::ORDER,
             parent: Name {
                 origin: Name::ORDER,
                 number: 0,

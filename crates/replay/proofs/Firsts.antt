@@ -2,7 +2,6 @@
 use Prim.Native.Nat.{ℕ, _+_, _<_, _≤_}
 use native.Mathlib.Omega.{arith}
 use mathlib.Core.Path.{_≡_, refl, sym, ap, _∙_}
-use mathlib.Core.Bool.{false}
 use mathlib.Core.List.{List, map, map-map}
 use mathlib.Core.Option.{none}
 use lib.Dec.{eqb}
@@ -105,13 +104,14 @@ module _ {shop order table : List ℕ} (ix : OrderIndexed shop order table) wher
       rw (z, t, end-at 0 (omega (arith, long))) (walked (getD (ends 0 rows) 0 0) (l .1) (l .0))))
 
   -- All that waits, with their counts.
-  pub goals-begun : (first : ℕ) (a : GoalsAt shop order table first) (network : Entering) (ws : List ℕ) → network .origin ≡ orderOrigin → network .method ≡ false
+  pub goals-begun : (first : ℕ) (a : GoalsAt shop order table first) (network : Entering) (ws : List ℕ) → network .origin ≡ orderOrigin
       → Begun shop order network (a .bs) ws → FirstGoals shop order ws
   unfolding goalsOf
-  goals-begun first a network ws o m b =
-      let e : nodeEntries network (a .bs) ≡ entriesFrom Of.Order orderOrigin (network .parent) false (network .end .0) 0 (a .bs) = rw (o, m) refl in
+  goals-begun first a network ws o b =
+      let e : nodeEntries network (a .bs) ≡ entriesFrom Of.Order orderOrigin (network .method) (network .parent) (network .end .0) 0 (a .bs) = rw o refl in
       let list : listIn shop order ws ≡ goalsOf (Order.order order) =
-      ap (map (waitingOf shop order)) (b .goals ∙ e) ∙ order-enters shop order Of.Order (network .end .0) (a .bs) (network .parent) 0 ∙ ap (enter Network.from-order none 0) (a .nodes) in
+      ap (map (waitingOf shop order)) (b .goals ∙ e)
+      ∙ order-enters shop order Of.Order (network .end .0) (a .bs) (network .method) (network .parent) 0 ∙ ap (enter Network.order none 0) (a .nodes) in
       record {
         valid = record {
           within = b .within;

@@ -97,11 +97,11 @@ fn write_goals<'a>(
     let sizes = OrderSizes::of(order);
     let network = Entering {
         origin: Name::ORDER,
+        method: Name::ORDER,
         parent: Name {
             origin: Name::ORDER,
             number: 0,
         },
-        method: false,
         first: first,
         end: Row(sizes.rows),
         count: sizes.goals,

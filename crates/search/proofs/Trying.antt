@@ -46,7 +46,7 @@ unfolding crowded
 crowded-after {P = P} {p = p} left h (by-release a) e = omega (arith, ltb-true (left + 1) (length (P .waiting)) e, one-released (P .waiting) p h)
 crowded-after {P = P} left h (by-action a b) e = ltb-true left (length (P .waiting)) e
 crowded-after {r} {n} {P} {p} left h (by-method {m} a b c) e =
-    omega (arith, ltb-true left (length (P .waiting)) e, none-lost (P .waiting) p (Network.from-step n) (networkOf (methodAt (r .domain) m)) h)
+    omega (arith, ltb-true left (length (P .waiting)) e, none-lost (P .waiting) p (Network.used n m) (networkOf (methodAt (r .domain) m)) h)
 
 -- A step `x` from `P`, with `k` steps left after it. The step before it was `y`, from `P₀`.
 module _ (r : Rules) (k : ℕ) (P₀ : Problem) (y : Step) (n : ℕ) (P : Problem) (x : Step) where

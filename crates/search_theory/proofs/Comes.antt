@@ -11,7 +11,7 @@ use lib.ListN.{length, getD, set}
 use Rattle.hgn.specs.Lists.{all, At}
 use Rattle.hgn.specs.Meaning.{Literal, Formula, Node, Domain, lastAfterAll, networkOf}
 use Rattle.hgn.specs.State.{State, assign, literalHolds, allHold, formulaHolds, atomsOf, γ, contains}
-use Rattle.hgn.specs.Network.{Origin, Name, Waiting, from-step, enter, goalAt, noGoal, decomposed}
+use Rattle.hgn.specs.Network.{Name, Source, used, Waiting, enter, goalAt, noGoal, decomposed}
 use Rattle.hgn.specs.Run.{Step, Move, act, use-method, moveOf, actionAt, methodAt, Problem, Rules, Deed, taken, stepped, runBy}
 use Rattle.hgn.proofs.Logic.Tests.{beq-true, false-not-true, any-true, all-true, contains-iff, at-of-lt}
 use Rattle.hgn.proofs.Run.Steps.{Moved, by-release, by-action, by-method, took}
@@ -79,7 +79,7 @@ every-holds s f l h e =
     all-true (literalHolds s) (c .0) (c .2) (contains-iff (c .0) l .0 (h (c .0) (c .1)))
 
 -- The formulas of a method's nodes are those of the goals that enter.
-pub enter-formulas : (o : Origin) (parent : Option Name) (i j : ℕ) (ns : List Node)
+pub enter-formulas : (o : Source) (parent : Option Name) (i j : ℕ) (ns : List Node)
     → map (λ (g : Waiting). g .formula) (enter o parent i (lastAfterAll j ns)) ≡ map (λ (n : Node). n .formula) ns
 unfolding enter lastAfterAll
 enter-formulas o parent i j [] = refl
@@ -144,7 +144,7 @@ module _ (r : Rules) where
           ⊎-elim (λ q. now (every-holds (P .state) (g .formula) l v (ap (λ (u : Waiting). formulaHolds (P .state) (u .formula)) q ∙ h))) ih (stays a m)
       go a (by-action h b) ih = ih m
       go {p} a (by-method {m = j} h b c) ih =
-          ih (inserted-old (enter (from-step n) (some (goalAt (P .waiting) p .name)) 0 (networkOf (methodAt (r .domain) j))) a m)
+          ih (inserted-old (enter (used n j) (some (goalAt (P .waiting) p .name)) 0 (networkOf (methodAt (r .domain) j))) a m)
 
   -- The literal comes in every accepted run that begins with the move.
   abbrev pub ComesBy : Literal → Move → Type 0
@@ -180,8 +180,8 @@ module _ (r : Rules) where
   node-waits {j} {v} m {n} {p} {P} (by-method a b c) =
       let parent = some (goalAt (P .waiting) p .name) in
       let nodes = methodAt (r .domain) j .nodes in
-      let e = Memᴰ·of-map (λ (g : Waiting). g .formula) (enter (from-step n) parent 0 (lastAfterAll 0 nodes))
-      (subst (List·Memᴰ (v .formula)) (sym (enter-formulas (from-step n) parent 0 0 nodes)) (Memᴰ·map (λ (k : Node). k .formula) m)) in
+      let e = Memᴰ·of-map (λ (g : Waiting). g .formula) (enter (used n j) parent 0 (lastAfterAll 0 nodes))
+      (subst (List·Memᴰ (v .formula)) (sym (enter-formulas (used n j) parent 0 0 nodes)) (Memᴰ·map (λ (k : Node). k .formula) m)) in
       (e .0, inserted-new (P .waiting) p (e .1), e .2)
 
   pub node-comes : {l : Literal} {j : ℕ} {v : Node} → List·Memᴰ v (methodAt (r .domain) j .nodes) → InEvery l (v .formula) → ComesBy l (use-method j)

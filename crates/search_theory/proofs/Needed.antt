@@ -14,7 +14,7 @@ use borrow.Author.Tests.{eqb-true, eqb-false}
 use Rattle.hgn.specs.Lists.{At}
 use Rattle.hgn.specs.Meaning.{Literal, Node, noNode, networkOf}
 use Rattle.hgn.specs.State.{literalHolds, contains}
-use Rattle.hgn.specs.Network.{Name, Waiting, from-step, enter, goalAt, noGoal, decomposed}
+use Rattle.hgn.specs.Network.{Name, used, Waiting, enter, goalAt, noGoal, decomposed}
 use Rattle.hgn.specs.Run.{Step, Move, act, use-method, moveOf, actionAt, methodAt, Problem, Rules, Deed}
 use Rattle.hgn.proofs.Logic.Tests.{not-true-false, false-not-true, at-mem, at-getD, at-lt, at-of-lt, mem-at}
 use Rattle.hgn.proofs.Run.Steps.{Moved, by-release, by-action, by-method, took}
@@ -32,12 +32,12 @@ module _ (r : Rules) where
   module _ (k m : ℕ) (o : OnlyMethod r k m) where
     -- Another method brings in no goal for which the action may be taken.
     none-entered : (j : ℕ) → j < length (r .domain .methods) → (j ≡ m → ⊥) → (n : ℕ) (parent : Option Name)
-        → NoneFor k (enter (from-step n) parent 0 (networkOf (methodAt (r .domain) j)))
+        → NoneFor k (enter (used n j) parent 0 (networkOf (methodAt (r .domain) j)))
     unfolding networkOf
     none-entered j b h n parent g i = not-true-false _ λ e.
         let nodes = methodAt (r .domain) j .nodes in
         let f = Memᴰ·of-map (λ (v : Node). v .formula) nodes
-        (subst (List·Memᴰ (g .formula)) (enter-formulas (from-step n) parent 0 0 nodes) (Memᴰ·map (λ (q : Waiting). q .formula) i)) in
+        (subst (List·Memᴰ (g .formula)) (enter-formulas (used n j) parent 0 0 nodes) (Memᴰ·map (λ (q : Waiting). q .formula) i)) in
         let a = mem-at (f .1) in
         h (o j (a .0) b (at-lt (a .1))
         (ap (λ (v : Node). r .mayAct (actionAt (r .domain) k) (v .formula)) (at-getD noNode (a .1))
@@ -73,7 +73,7 @@ module _ (r : Rules) where
                 let parent = some (goalAt (P .waiting) p .name) in
                 ih λ g i.
                 ⊎-elim (h g) (none-entered j (method-known (r .domain) (x .move) j q) (eqb-false j m y) n parent g)
-                (inserted-cases (enter (from-step n) parent 0 (networkOf (methodAt (r .domain) j))) a i)
+                (inserted-cases (enter (used n j) parent 0 (networkOf (methodAt (r .domain) j))) a i)
 
   -- The ways in which a move is needed.
 

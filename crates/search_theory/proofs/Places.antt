@@ -9,7 +9,7 @@ use lib.ListN.{length, drop, length-append}
 use lib.Seq.{take-append-seam, drop-append-seam, drop-append-add, getD-append-seam}
 use Rattle.hgn.specs.Meaning.{Node, Domain, networkOf}
 use Rattle.hgn.specs.State.{State}
-use Rattle.hgn.specs.Network.{Origin, Waiting, from-step, free, enter, goalAt, noGoal, released, decomposed}
+use Rattle.hgn.specs.Network.{Source, used, Waiting, free, enter, goalAt, noGoal, released, decomposed}
 use Rattle.hgn.specs.Run.{Step, Move, release, act, use-method, unknown, moveOf, actionAt, methodAt, Problem, Rules, moved, Deed, deedOf, taken, stepped}
 use Rattle.hgn.proofs.Run.Steps.{Moved, by-release, by-action, by-method, takes}
 use Rattle.search_theory.specs.Rules.{ready, stateAfter}
@@ -25,7 +25,7 @@ suits r g unknown = false
 unfoldable pub into : Domain → ℕ → Waiting → Move → List Waiting
 into d n g release = []
 into d n g (act k) = g ∷ []
-into d n g (use-method m) = enter (from-step n) (some (g .name)) 0 (networkOf (methodAt d m)) ++ (g ∷ [])
+into d n g (use-method m) = enter (used n m) (some (g .name)) 0 (networkOf (methodAt d m)) ++ (g ∷ [])
 into d n g unknown = g ∷ []
 
 abbrev pub problem : State → List Waiting → Problem
@@ -65,7 +65,7 @@ module _ (a : List Waiting) (g : Waiting) (c : List Waiting) where
       past : suc (length a) ≡ length a + 1
       past = omega arith
 
-  decomposed-there : (o : Origin) (nodes : List Node)
+  decomposed-there : (o : Source) (nodes : List Node)
       → decomposed (a ++ (g ∷ c)) (length a) o nodes ≡ a ++ ((enter o (some (g .name)) 0 nodes ++ (g ∷ [])) ++ c)
   unfolding decomposed
   decomposed-there o nodes =
@@ -79,7 +79,7 @@ module _ (a : List Waiting) (g : Waiting) (c : List Waiting) where
   unfolding moved into stateAfter
   moved-there d n s release = ap (problem s) released-there
   moved-there d n s (act k) = refl
-  moved-there d n s (use-method m) = ap (problem s) (decomposed-there (from-step n) (networkOf (methodAt d m)))
+  moved-there d n s (use-method m) = ap (problem s) (decomposed-there (used n m) (networkOf (methodAt d m)))
   moved-there d n s unknown = refl
 
 -- What a move at `g` made of the problem, and that the goal's formula suited it.

@@ -14,7 +14,7 @@ use lib.Seq.{split-at}
 use borrow.Author.Tests.{eqb-true, eqb-false, eq-eqb, ne-eqb, ltb-true}
 use Rattle.hgn.specs.Meaning.{Domain, networkOf}
 use Rattle.hgn.specs.State.{State}
-use Rattle.hgn.specs.Network.{Waiting, from-step, free, enter, goalAt, noGoal}
+use Rattle.hgn.specs.Network.{used, Waiting, free, enter, goalAt, noGoal}
 use Rattle.hgn.specs.Run.{Step, Move, release, act, use-method, unknown, moveOf, methodAt, Problem, Rules, Deed, deedOf, taken, stepped, run}
 use Rattle.hgn.specs.Search.{lower-place, lower-move}
 use Rattle.hgn.specs.Definition1.{ComesAfter}
@@ -92,10 +92,10 @@ module _ (n : ℕ) where
   into-exchanged d k g (act j) f = ap {B = List Waiting} (λ q. q ∷ []) (rename-kept (exchange n) n exchange-below g f)
   into-exchanged d k g (use-method m) f =
       let e = rename-kept (exchange n) n exchange-below g f in
-      map-append (rename 0 (exchange n)) (enter (from-step k) (some (g .name)) 0 (networkOf (methodAt d m))) (g ∷ [])
+      map-append (rename 0 (exchange n)) (enter (used k m) (some (g .name)) 0 (networkOf (methodAt d m))) (g ∷ [])
       ∙ ap₂ {C = List Waiting} (λ u v. u ++ v)
-      (enter-renamed 0 (exchange n) k 0 (g .name) (networkOf (methodAt d m))
-      ∙ ap {B = List Waiting} (λ (q : Waiting). enter (from-step (exchange n k)) (some (q .name)) 0 (networkOf (methodAt d m))) e)
+      (enter-renamed 0 (exchange n) k m 0 (g .name) (networkOf (methodAt d m))
+      ∙ ap {B = List Waiting} (λ (q : Waiting). enter (used (exchange n k) m) (some (q .name)) 0 (networkOf (methodAt d m))) e)
       (ap {B = List Waiting} (λ q. q ∷ []) e)
   into-exchanged d k g unknown f = ap {B = List Waiting} (λ q. q ∷ []) (rename-kept (exchange n) n exchange-below g f)
 
@@ -123,8 +123,8 @@ still-free d n a g v h m named k f = free-iff-none-listed _ h .1 none-listed
     entered e release j = absurd (List·Memᴰ·not-nil j)
     entered e (act i) j = at-g e j
     entered e (use-method i) j =
-        ⊎-elim (λ new l. later-other a g v (named .distinct) h k (strangers (networkOf (methodAt d i)) named h e waits new .before-parent l)) (at-g e)
-        (List·Memᴰ·append-cases (enter (from-step n) (some (g .name)) 0 (networkOf (methodAt d i))) j)
+        ⊎-elim (λ new l. later-other a g v (named .distinct) h k (strangers i (networkOf (methodAt d i)) named h e waits new .before-parent l)) (at-g e)
+        (List·Memᴰ·append-cases (enter (used n i) (some (g .name)) 0 (networkOf (methodAt d i))) j)
     entered e unknown j = at-g e j
 
     none-listed : (e : Waiting) → List·Memᴰ e (a ++ (into d n g m ++ v)) → ¬ ComesAfter h e

@@ -30,7 +30,7 @@ pub record OfCall (shop first second room : List ℕ) (r : Refusal) (exit : List
       → JoinNumbers shop first second room (lentOf r exit) (length (order first .goals) + length (order second .goals)) rows
   pub is-join : r .number ≡ 0 → IsJoin shop first second room (lentOf r exit)
   pub join-rule : r .number ≡ 0 → (trace plan : List ℕ) (a : Answer) (left : List ℕ) → Replays shop (sheetIn exit) trace plan a left
-      → RuleOfSheet shop first second trace plan (replayedOf a left)
+      → RuleOfSheet shop first second (sheetIn exit) trace plan (replayedOf a left)
   pub demand-3 : r .number ≡ 0 → (trace : List ℕ) → checkTrace shop first trace ≡ passed → OfWritten shop first second trace (sheetIn exit)
 
 -- A call that answered 0, and the sheet that it left.

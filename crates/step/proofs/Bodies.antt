@@ -13,7 +13,7 @@ use Rattle.hgn.specs.Questions as Questions
 use Rattle.hgn.specs.Questions.{_asks_, _naming_, passed, firstNo}
 use Rattle.hgn.specs.Meaning.{Node, nodeOf, goalOf, networkOf}
 use Rattle.hgn.specs.State.{State, allHold, formulaHolds, unmet, unmetGoal, relevant}
-use Rattle.hgn.specs.Network.{Waiting, Origin, from-step, mostWaiting, free, anyFree, goalAt, decomposed}
+use Rattle.hgn.specs.Network.{Source, used, Waiting, mostWaiting, free, anyFree, goalAt, decomposed}
 use Rattle.hgn.specs.Run as Run
 use Rattle.hgn.specs.Run.{Step, Problem, Rules, strict, moveOf, actionAt, methodAt, known, ownQuestions, stepQuestions, deedOf, moved, refused, taken, stepped}
 use Rattle.hgn.specs.Shop.{domain, actionCount, methodCount, checkShop}
@@ -36,7 +36,7 @@ unfolding moveOf moveRead
 read-by-counts shop n e = let c = shop-counts shop e in rw (c .0, c .1)
 
 -- A method's nodes enter, none leaves.
-pub decomposed-length : (w : List Waiting) (p : ℕ) (o : Origin) (nodes : List Node) → length (decomposed w p o nodes) ≡ length w + length nodes
+pub decomposed-length : (w : List Waiting) (p : ℕ) (o : Source) (nodes : List Node) → length (decomposed w p o nodes) ≡ length w + length nodes
 unfolding decomposed
 decomposed-length w p o nodes =
     let e = length-enter o (some (goalAt w p .name)) 0 nodes in
@@ -139,7 +139,7 @@ module _ (shop order : List ℕ) (s : State) (goal : Span) (count limit n p : �
   module _ (m : ℕ) where
     pub size : length (moved (domain shop) n P p (Run.use-method m) .waiting) ≡ count + length (networkOf (methodAt (domain shop) m))
     unfolding moved
-    size = decomposed-length (P .waiting) p (from-step n) (networkOf (methodAt (domain shop) m)) ∙ ap (λ (k : ℕ). k + length (networkOf (methodAt (domain shop) m))) (f .size)
+    size = decomposed-length (P .waiting) p (used n m) (networkOf (methodAt (domain shop) m)) ∙ ap (λ (k : ℕ). k + length (networkOf (methodAt (domain shop) m))) (f .size)
 
     pub use-30 : allHold s (methodAt (domain shop) m .needs) ≡ false → own (Run.use-method m) ≡ Questions.refused ((30 asks false naming unmet s (methodAt (domain shop) m .needs)) .failure)
     unfolding ownQuestions firstNo

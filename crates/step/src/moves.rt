@@ -30,6 +30,7 @@ pub enum Read {
 }
 
 impl Move {
+    pub const RELEASE: u16 = 0;
     // The move that stands for method 0.
     pub const FIRST_METHOD: u16 = 256;
 
@@ -37,7 +38,7 @@ impl Move {
     pub fn read(number: u16, actions: u16, methods: u16) -> Read
         ensures { λ r. ⌜ readOf r ≡ moveRead number actions methods ⌝ }
     {
-        if number == 0 {
+        if number == Self::RELEASE {
             return Read::Readable(Move::Release);
         }
         if number <= actions {

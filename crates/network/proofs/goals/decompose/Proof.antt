@@ -2,7 +2,7 @@
 use Prim.Native.Nat.{_+_, _≤_}
 use native.Mathlib.Omega.{arith}
 use mathlib.Core.Path.{_≡_, refl, ap, _∙_}
-use lib.ListN.{length, set}
+use lib.ListN.{length}
 use Rattle.hgn.specs.Network.{mostWaiting}
 use Rattle.sheet_index.specs.Tables.{MethodAt}
 use Rattle.sheet_index.proofs.OperatorRows.{method-size}
@@ -66,4 +66,4 @@ decompose-spec =
     let e = c .before .before .before .before .before .before .before .before .before .before .before .entry-at .ensures in
     rw (c .set-pending .ensures, number d)
     (goals-decomposed (s .pre .0 .0) (s .pre .0 .1) (at d) (s .args .number) (s .pre .0 .2) (s .args .place .0) (s .args .goals .now) _ _ (s .pre .1 .0 .0) (s .pre .1 .0 .1) (fits d)
-    _ refl (ap (λ (x : Entry). x .name) e) refl refl (rw (number d) at o) wrote (s .pre .1 .1 .0 .0) (s .pre .1 .1 .0 .1) (s .pre .1 .1 .1))))
+    _ refl refl (ap (λ (x : Entry). x .name) e) refl (rw (number d) at o) wrote (s .pre .1 .1 .0 .0) (s .pre .1 .1 .0 .1) (s .pre .1 .1 .1))))

@@ -48,11 +48,17 @@ entry-at-spec =
     (λ c. search needs)
     -- element-copy-out-t35
     (λ c. search needs)
-    -- add-t37
+    -- add-t36
     (λ c. search needs)
-    -- mul-t38
+    -- mul-t37
     (λ c. search needs)
-    -- element-copy-out-t41
+    -- element-copy-out-t40
+    (λ c. search needs)
+    -- add-t42
+    (λ c. search needs)
+    -- mul-t43
+    (λ c. search needs)
+    -- element-copy-out-t46
     (λ c. search needs)
     -- returns
-    (λ c. rw (c .before .before .before .before .before .before .sheet-of .ensures, c .before .before .before .before .before .before .before .before .start-of .ensures) refl))
+    (λ c. rw (c .before .before .before .before .before .before .before .sheet-of .ensures, c .before .before .before .before .before .before .before .before .before .start-of .ensures) refl))

@@ -1,5 +1,6 @@
 -- A goal's fields, one by one. Assumes nothing.
 use borrow.Author.Needs.{needs}
+use borrow.Author.Tests.{eq-eqb, ne-eqb}
 use Rattle.network.proofs.goals.node_entry.Statement.{statement}
 use Rattle.network.proofs.goals.node_entry.Tie as tie
 
@@ -10,6 +11,6 @@ node-entry-spec =
     -- sheet-of-requires
     (λ c κs. search needs)
     -- returns
-    (λ c. rw (c .before .before .before .before .before .sheet-of .ensures, c .before .before .before .if1 .taken))
+    (λ c. rw (c .before .before .before .sheet-of .ensures, eq-eqb _ _ (c .if1 .taken)))
     -- returns-2
-    (λ c. rw (c .before .before .sheet-of .ensures, c .if1 .left)))
+    (λ c. rw (c .before .before .before .before .before .before .sheet-of .ensures, ne-eqb _ _ (c .before .before .before .if1 .left))))

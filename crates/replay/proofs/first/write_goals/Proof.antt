@@ -46,4 +46,4 @@ write-goals-spec =
     -- returns
     (λ c.
     let o = c .before .before in
-    goals-begun (start o .pre .0) _ (found o) _ _ refl refl (c .begin .ensures (found o .bs) (walk o))))
+    goals-begun (start o .pre .0) _ (found o) _ _ refl (c .begin .ensures (found o .bs) (walk o))))
