@@ -1,0 +1,2 @@
+-- What stands at a row of a trace.
+pub mod TraceRows
