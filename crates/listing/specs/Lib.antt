@@ -1,0 +1,2 @@
+-- What a step gives to the listing.
+pub mod Lines
