@@ -4,7 +4,7 @@ use mathlib.Core.Path.{_≡_, refl, ap, ap₂, _∙_}
 use mathlib.Core.List.{List, _++_, append-nil}
 use lib.ListN.{take}
 use Rattle.hgn.specs.Replay.{Replayed, refusal, replay}
-use Rattle.sheet_files.specs.Texts.{heading}
+use Rattle.sheet_files.specs.Texts.{heading, headingOf}
 use Rattle.replay_main.specs.Printed.{lines, textOf, RefusalIsOneLine}
 
 -- A replay depends on the words of its sheets alone, so equal words may be put for each other.
@@ -14,8 +14,7 @@ replay-of room a b c = rw (a, b, c) refl
 
 -- The heading and the lines of a call's answer are its text.
 pub text-is : {c e : Replayed} (t1 t2 plan : List ℕ) → c ≡ e
-    → t1 ≡ heading (c .answer .refusal .number) (c .answer .refusal .place) (c .answer .count) (c .answer .cost) (c .answer .atom)
-    → plan ≡ take (c .answer .count) (c .room) → t2 ≡ t1 ++ lines plan → t2 ≡ textOf e
+    → t1 ≡ headingOf c → plan ≡ take (c .answer .count) (c .room) → t2 ≡ t1 ++ lines plan → t2 ≡ textOf e
 unfolding textOf
 text-is t1 t2 plan called first front second = second ∙ ap₂ {C = List ℕ} (λ (a b : List ℕ). a ++ lines b) first front ∙ ap textOf called
 

@@ -7,7 +7,7 @@ use Rattle.hgn.specs.Trace.{mostSteps}
 use Rattle.hgn.specs.Questions.{Failure}
 use Rattle.hgn.specs.Replay.{Replayed, refusal, replay}
 use Rattle.sheet_files.specs.Words.{shopWords, orderWords, traceWords}
-use Rattle.sheet_files.specs.Texts.{ended, blank, newline, heading, numberBytes, headingBytes}
+use Rattle.sheet_files.specs.Texts.{ended, blank, newline, headingOf, numberBytes, headingBytes}
 
 -- One action number a line.
 unfoldable pub lines : List ℕ → List ℕ
@@ -19,9 +19,7 @@ abbrev pub mostBytes : ℕ
 mostBytes = headingBytes + numberBytes * mostSteps
 
 unfoldable pub textOf : Replayed → List ℕ
-textOf r =
-    heading (r .answer .refusal .number) (r .answer .refusal .place) (r .answer .count) (r .answer .cost) (r .answer .atom)
-    ++ lines (take (r .answer .count) (r .room))
+textOf r = headingOf r ++ lines (take (r .answer .count) (r .room))
 
 -- The text for the bytes of three files, with a word of plan room lent for each of the most steps, 4,096.
 unfoldable pub printed : List ℕ → List ℕ → List ℕ → List ℕ

@@ -5,6 +5,7 @@ use mathlib.Core.Bool.{cond}
 use mathlib.Core.List.{List, [], _∷_, _++_}
 use lib.Dec.{ltb}
 use Rattle.io.specs.Digits.{digits}
+use Rattle.hgn.specs.Replay.{Replayed}
 
 -- The most digits of a number that is printed: they hold every 64-bit number.
 abbrev pub mostDigits : ℕ
@@ -34,6 +35,11 @@ newline = 10
 unfoldable pub heading : ℕ → ℕ → ℕ → ℕ → ℕ → List ℕ
 heading number place count cost atom =
     ended blank number ++ ended blank place ++ ended blank count ++ ended blank cost ++ ended newline atom
+
+-- The heading of what a replay answers.
+abbrev pub headingOf : Replayed → List ℕ
+headingOf r =
+    heading (r .answer .refusal .number) (r .answer .refusal .place) (r .answer .count) (r .answer .cost) (r .answer .atom)
 
 -- The most bytes of a number with the byte that ends it, and of the heading with its five numbers.
 abbrev pub numberBytes : ℕ
