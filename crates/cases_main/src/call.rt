@@ -1,11 +1,14 @@
-// The public calls. A case gives each the parts that it takes; where it takes D, or a second order, that stands in the trace's place.
+// The calls that a case can name: the public ones, the display's and the listing's. A case gives each the parts that it takes; where it
+// takes D, or a second order, that stands in the trace's place.
 use crate::joined;
 use crate::line;
+use crate::listed;
 use crate::replayed;
 use crate::room;
 use crate::searched;
 use crate::sheet;
 use crate::stepping;
+use crate::stepping::View;
 use crate::text::equals;
 use sheet_check::check::check_order;
 use sheet_check::check::check_shop;
@@ -20,6 +23,8 @@ pub enum Call {
     Search,
     Join,
     Display,
+    Listing,
+    Goals,
 }
 
 // What a name is the name of.
@@ -53,6 +58,12 @@ impl Call {
         if equals(name, b"display") {
             return Named::Call(Call::Display);
         }
+        if equals(name, b"listing") {
+            return Named::Call(Call::Listing);
+        }
+        if equals(name, b"goals") {
+            return Named::Call(Call::Goals);
+        }
         Named::Nothing
     }
 
@@ -78,7 +89,9 @@ impl Call {
             Call::Replay => replayed::write(shop, order, trace, room),
             Call::Search => searched::write(shop, order, trace, room),
             Call::Join => joined::write(shop, order, trace, room),
-            Call::Display => stepping::write(shop, order, trace),
+            Call::Display => stepping::write(shop, order, trace, View::Steps),
+            Call::Listing => listed::write(shop, order, trace, room),
+            Call::Goals => stepping::write(shop, order, trace, View::Goals),
         }
     }
 

@@ -15,6 +15,13 @@ pub fn number(value: u64) {
     digits(value);
 }
 
+// What stands before an item of a list; before the first, nothing.
+pub fn comma(is_first: bool) {
+    if !is_first {
+        text(b",");
+    }
+}
+
 // The number and the place of a refusal.
 pub fn refusal(refusal: Refusal) {
     number(refusal.number as u64);

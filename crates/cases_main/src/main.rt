@@ -5,10 +5,13 @@ mod call;
 mod case;
 mod joined;
 mod line;
+mod listed;
 mod replayed;
 mod room;
 mod searched;
 mod sheet;
+mod sources;
+mod start;
 mod stepping;
 mod text;
 

@@ -52,12 +52,17 @@ fn write_state(atoms: [bool; Shop::MOST_ATOMS as usize]) {
     room::write_none(is_empty);
 }
 
-fn write_answer(answer: Answer, room: &[u16]) {
-    line::text(b":");
+// The five numbers of an answer.
+pub fn write_numbers(answer: Answer) {
     line::refusal(answer.refusal);
     line::number(answer.count as u64);
     line::number(answer.cost as u64);
     line::number(answer.atom as u64);
+}
+
+fn write_answer(answer: Answer, room: &[u16]) {
+    line::text(b":");
+    write_numbers(answer);
     let state = answer.state;
     let atoms = state.atoms;
     write_state(atoms);

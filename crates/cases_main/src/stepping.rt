@@ -1,32 +1,36 @@
 // What the display shows of steps, one after the other: `: NUMBER WAITING, NUMBER WAITING ATOM`, the step's number, how many goals wait
-// after it, and the first atom that is not as wanted where one is named. A refused step leaves the record as it was: the next one goes on
-// from there, as the same step of the trace.
+// after it, and the first atom that is not as wanted where one is named. Or what brought in the goals that wait after the last of them:
+// `: METHOD STEP, METHOD STEP`, behind what is shown of each refused step and a semicolon. A refused step leaves the record as it was: the
+// next one goes on from there, as the same step of the trace.
 use crate::line;
+use crate::sources;
+use crate::start::Start;
 use display::forward;
 use network::goals;
 use network::waiting::Place;
-use replay::first;
 use sheet_check::check::Trace;
 use sheet_check::check::check_order;
 use sheet_check::rows::word;
 use sheet_check::sizes::TraceSizes;
-use sheet_index::index::Tables;
 use state::atoms;
 use step::moves::Step;
 use step::problem::Problem;
 use step::problem::Stepped;
 ghost use mathlib.Core.Path.{_≡_};
-ghost use Prim.Native.Nat.{suc, _+_, _≤_};
-ghost use lib.ListN.{length};
+ghost use Prim.Native.Nat.{_+_, _≤_};
 ghost use mir.Syntax.{w16};
 ghost use mir.Val.{Fits};
-ghost use Rattle.hgn.specs.Rows.{mostRows};
-ghost use Rattle.hgn.specs.Shop.{mostActions, mostMethods};
 ghost use Rattle.hgn.specs.Order.{checkOrder};
 ghost use Rattle.hgn.specs.Questions.{passed};
-ghost use Rattle.sheet_index.specs.Tables.{Indexed};
-ghost use Rattle.step.specs.Taking.{Going};
+ghost use Rattle.network.specs.Goals.{Within};
+ghost use Rattle.replay.specs.Running.{Prepared};
 ghost use Rattle.display.specs.Stepping.{nextNumber};
+
+// What is written of steps: what each shows, or what the refused ones show and then what brought the waiting goals in.
+pub enum View {
+    Steps,
+    Goals,
+}
 
 // An atom that a step names; the number that stands for none is not written.
 fn write_named(atom: u16) {
@@ -45,6 +49,15 @@ fn write_shown(shown: Stepped) {
     write_named(failure.atom);
 }
 
+fn write_refused(shown: Stepped) {
+    let failure = shown.failure;
+    let refusal = failure.refusal;
+    if refusal.number != 0 {
+        write_shown(shown);
+        line::text(b";");
+    }
+}
+
 // Only a step that is taken is counted.
 fn next_number(number: u16, answer: u16) -> u16
     requires { ⌜ Fits w16 (number + 1) ⌝ }
@@ -56,15 +69,40 @@ fn next_number(number: u16, answer: u16) -> u16
     number
 }
 
-fn write_comma(at: usize) {
-    if 0 < at {
-        line::text(b",");
+impl View {
+    fn write_step(self, is_first: bool, shown: Stepped) {
+        match self {
+            View::Steps => {
+                line::comma(is_first);
+                write_shown(shown);
+            }
+            View::Goals => write_refused(shown),
+        }
+    }
+
+    // What is written of the record after the last step.
+    fn write_last(self, last: Problem)
+        requires { ⌜ Within (last .waiting) ⌝ }
+    {
+        match self {
+            View::Steps => {}
+            View::Goals => {
+                let waiting = last.waiting;
+                sources::write(&waiting);
+            }
+        }
     }
 }
 
-fn write_steps<'a>(shop: &'a [u16], order: &'a [u16], trace: &[u16], tables: &[u16], first: Problem)
-    requires { ⌜ Indexed (now shop) (now order) (now tables) ⌝ }
-    requires { ⌜ Going (now shop) (now order) 0 (first .atoms) (first .waiting) ⌝ }
+fn write_steps<'a>(
+    shop: &'a [u16],
+    order: &'a [u16],
+    trace: &[u16],
+    tables: &[u16],
+    first: Problem,
+    view: View,
+)
+    requires { ⌜ Prepared (now shop) (now order) (now tables) first ⌝ }
 {
     let sizes = TraceSizes::of(trace);
     let steps = sizes.steps as usize;
@@ -77,39 +115,32 @@ fn write_steps<'a>(shop: &'a [u16], order: &'a [u16], trace: &[u16], tables: &[u
             mv: word(trace, Trace::SIZES + at),
             place: Place(word(trace, Trace::SIZES + steps + at)),
         };
-        write_comma(at);
-        at += 1;
         let shown = forward::show_step(problem, shop, order, tables, step);
-        write_shown(shown);
+        view.write_step(at == 0, shown);
+        at += 1;
         problem = shown.problem;
         let failure = shown.failure;
         let refusal = failure.refusal;
         number = next_number(number, refusal.number);
     }
+    view.write_last(problem);
     line::text(b"\n");
 }
 
-fn write_indexed<'a>(shop: &'a [u16], order: &'a [u16], trace: &[u16], tables: &mut [u16])
-    requires { ⌜ checkOrder (now shop) (now order) ≡ passed ⌝ }
-    requires { ⌜ mostRows + suc (mostActions + mostMethods) ≤ length (now tables) ⌝ }
-{
-    let first = first::prepared(shop, order, tables);
-    write_steps(shop, order, trace, tables, first);
-}
-
-fn write_checked<'a>(shop: &'a [u16], order: &'a [u16], trace: &[u16])
+fn write_checked<'a>(shop: &'a [u16], order: &'a [u16], trace: &[u16], view: View)
     requires { ⌜ checkOrder (now shop) (now order) ≡ passed ⌝ }
 {
-    let mut tables = [0u16; Tables::WORDS];
-    write_indexed(shop, order, trace, &mut tables);
+    let start = Start::of(shop, order);
+    let tables = start.tables;
+    write_steps(shop, order, trace, &tables, start.problem, view);
 }
 
 // The steps of a list, as a trace has them, on sheets that pass; else what their check answers.
-pub fn write<'a>(shop: &'a [u16], order: &'a [u16], trace: &[u16]) {
+pub fn write<'a>(shop: &'a [u16], order: &'a [u16], trace: &[u16], view: View) {
     line::text(b":");
     let verdict = check_order(shop, order);
     if verdict.number == 0 {
-        write_checked(shop, order, trace);
+        write_checked(shop, order, trace, view);
     } else {
         line::verdict(verdict);
     }

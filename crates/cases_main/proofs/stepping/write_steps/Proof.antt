@@ -11,11 +11,11 @@ use Rattle.cases_main.proofs.stepping.write_steps.Statement.{statement}
 use Rattle.cases_main.proofs.stepping.write_steps.Tie as tie
 
 abbrev Inv-loop : tie.InvT-loop
-Inv-loop shop order trace tables steps problem₀ number₀ at₀ t14 problem number at =
+Inv-loop shop order trace tables view steps problem₀ number₀ at₀ t14 problem number at =
     Going shop order number (problem .atoms) (problem .waiting) × (number ≤ at) × (at ≤ steps) × Fits w16 steps
 
 abbrev μ-loop : tie.MeasureT-loop
-μ-loop shop order trace tables steps problem₀ number₀ at₀ t14 problem number at = steps - at
+μ-loop shop order trace tables view steps problem₀ number₀ at₀ t14 problem number at = steps - at
 
 pub write-steps-spec : {M : Type 1} → statement M
 write-steps-spec =
@@ -28,7 +28,7 @@ write-steps-spec =
     -- cast-steps
     (λ c. search needs)
     -- loop-holds
-    (λ c. search needs)
+    (λ c. (display-goes-on .begins _ _ _ _ (c .before .before .before .before .before .before .pre) .1, omega arith, omega arith, search needs))
     -- add-word
     (λ c. search needs)
     -- word-requires
@@ -39,16 +39,14 @@ write-steps-spec =
     (λ c. search needs)
     -- word-requires-2
     (λ c κs. search needs)
-    -- write-comma-requires
+    -- show-step-requires
+    (λ c κs.
+    let l = c .before .before .before in
+    (l .before .before .before .before .before .before .before .pre .indexed, (l .loop .inv .0, search needs)))
+    -- write-step-requires
     (λ c κs. search needs)
     -- add-at
     (λ c. search needs)
-    -- show-step-requires
-    (λ c κs.
-    let l = c .before .before .before .before in
-    (l .before .before .before .before .before .before .before .pre .0, (l .loop .inv .0, search needs)))
-    -- write-shown-requires
-    (λ c κs. search needs)
     -- next-number-requires
     (λ c κs. search needs)
     -- loop-less
@@ -56,7 +54,7 @@ write-steps-spec =
     -- loop-again
     (λ c.
     let v = c .before .before .before .before .before in
-    let l = v .before .before .before .before .before in
+    let l = v .before .before .before .before in
     let a = l .before .before .before .before .before .before .before .args in
     let r = v .show-step .result in
     let n = c .next-number .ensures in (
@@ -66,6 +64,8 @@ write-steps-spec =
       search needs,
       l .loop .inv .3,
     ))
+    -- write-last-requires
+    (λ c κs. c .before .loop .inv .0 .valid .within)
     -- slice-aggregate-text
     (λ c. search needs)
     -- text-requires

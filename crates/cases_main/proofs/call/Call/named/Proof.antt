@@ -36,9 +36,19 @@ named-spec =
     (λ c κs. search needs)
     -- returns-7
     (λ c. c .before .equals7 .ensures .0 (c .if7 .taken))
+    (λ c. search needs)
+    (λ c κs. search needs)
     -- returns-8
+    (λ c. c .before .equals8 .ensures .0 (c .if8 .taken))
+    (λ c. search needs)
+    (λ c κs. search needs)
+    -- returns-9
+    (λ c. c .before .equals9 .ensures .0 (c .if9 .taken))
+    -- returns-10
     (λ c.
-    let e6 = c .before .before .before in
+    let e8 = c .before .before .before in
+    let e7 = e8 .before .before .before in
+    let e6 = e7 .before .before .before in
     let e5 = e6 .before .before .before in
     let e4 = e5 .before .before .before in
     let e3 = e4 .before .before .before in
@@ -51,4 +61,6 @@ named-spec =
     (differs (e4 .before .equals4 .ensures) (e4 .if4 .left))
     (differs (e5 .before .equals5 .ensures) (e5 .if5 .left))
     (differs (e6 .before .equals6 .ensures) (e6 .if6 .left))
-    (differs (c .before .equals7 .ensures) (c .if7 .left))))
+    (differs (e7 .before .equals7 .ensures) (e7 .if7 .left))
+    (differs (e8 .before .equals8 .ensures) (e8 .if8 .left))
+    (differs (c .before .equals9 .ensures) (c .if9 .left))))
