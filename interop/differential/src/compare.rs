@@ -6,6 +6,7 @@ use liropuva::{Answer, NO_ATOM, QUESTIONS, ReplayAnswer, Subject};
 use reference::{Atoms, Budget, Refusal, Stopped};
 
 use crate::joins::Joins;
+use crate::listings::Listings;
 use crate::random::Random;
 use crate::unmet::Unmet;
 
@@ -92,6 +93,7 @@ pub struct Tally {
     pub searches: Counts,
     pub checks: Counts,
     pub joins: Joins,
+    pub listings: Listings,
     /// How often a search found a trace of so many steps.
     pub found_steps: Counts,
     /// How often a trace of 4,096 steps was accepted.
@@ -105,6 +107,7 @@ impl Tally {
         self.searches.add(&other.searches);
         self.checks.add(&other.checks);
         self.joins.add(&other.joins);
+        self.listings.add(&other.listings);
         self.found_steps.add(&other.found_steps);
         self.full_traces += other.full_traces;
     }

@@ -281,11 +281,20 @@ fn subgoal_method(random: &mut Random, atoms: u16, goal: u16) -> Method {
 /// A shop in which every walk can end well: one action makes each atom true,
 /// and all is wanted true. Its methods may have many nodes.
 pub fn easy_shop(random: &mut Random) -> Shop {
+    easy_shop_of(random, 30)
+}
+
+/// An [`easy_shop`] whose methods have few nodes, so that they nest deep.
+pub fn nesting_shop(random: &mut Random) -> Shop {
+    easy_shop_of(random, 3)
+}
+
+fn easy_shop_of(random: &mut Random, most_nodes: usize) -> Shop {
     let atoms = random.between(1, 4) as u16;
     let actions = (0..atoms).map(|atom| simple_action(random, atom, true));
     let actions = actions.collect();
     let methods = (0..random.between(1, 3)).map(|_| {
-        let nodes = random.between(1, 30);
+        let nodes = random.between(1, most_nodes);
         Method {
             needs: Vec::new(),
             nodes: (0..nodes)

@@ -6,10 +6,12 @@
 pub mod compare;
 pub mod cores;
 pub mod damage;
+pub mod domain;
 pub mod draft;
 pub mod generate;
 pub mod inputs;
 pub mod joins;
+pub mod listings;
 pub mod random;
 pub mod runner;
 pub mod unmet;

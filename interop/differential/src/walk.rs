@@ -1,6 +1,6 @@
 //! Traces made by walking in the reference model.
 
-use reference::{METHOD_0, Run, Shop};
+use reference::{Literals, METHOD_0, Run, Shop};
 
 use crate::draft::Step;
 use crate::random::Random;
@@ -173,4 +173,19 @@ pub fn random_steps(random: &mut Random, shop: &Shop, most: usize) -> Vec<Step> 
     (0..random.between(0, most))
         .map(|_| (random.below(3) as u16, random_move(random, shop)))
         .collect()
+}
+
+/// Repeats an action without needs, if one was taken, until there are `most`
+/// steps: what was accepted still is.
+pub fn fill(steps: &mut Vec<Step>, shop: &Shop, most: usize) {
+    let repeats = |&(_, word): &Step| {
+        let action = usize::from(word).checked_sub(1);
+        let action = action.and_then(|index| shop.actions.get(index));
+        action.is_some_and(|action| action.needs == Literals::EMPTY)
+    };
+    if let Some(number) = steps.iter().position(repeats) {
+        let step = steps[number];
+        let missing = most.saturating_sub(steps.len());
+        steps.splice(number..number, std::iter::repeat_n(step, missing));
+    }
 }

@@ -5,7 +5,8 @@
 //! the one case with that seed.
 
 use differential::compare::{self, NEVER_TOLD, Tally};
-use differential::draft::{Order, Shop, Step, trace_words};
+use differential::domain::Domain;
+use differential::draft::{Step, trace_words};
 use differential::generate::{self, Size};
 use differential::random::Random;
 use differential::runner::assert_at_least;
@@ -13,7 +14,7 @@ use differential::unmet::Way;
 use differential::walk::{self, Habit};
 use differential::{damage, runner};
 use liropuva::{QUESTIONS, Subject};
-use reference::{MAX_GOALS, MAX_ROWS, MAX_STEPS, METHOD_0, Network, Rules, Run};
+use reference::{MAX_ROWS, MAX_STEPS, METHOD_0, Run};
 
 /// The questions whose refusal names an atom. No other's does.
 const NAMES_ATOM: [u32; 2] = [29, 30];
@@ -28,86 +29,10 @@ const DEEP_STEPS_TRIED: u64 = 100_000;
 /// question 41.
 const WIDE_DEPTHS: [u32; 4] = [65_536, 65_537, 65_568, u32::MAX];
 
-/// A well-formed shop and order, as words and as the reference model reads them.
-struct Domain {
-    draft: (Shop, Order),
-    shop_words: Vec<u16>,
-    order_words: Vec<u16>,
-    shop: reference::Shop,
-    order: Network,
-}
-
-impl Domain {
-    fn new(shop: Shop, order: Order) -> Domain {
-        let shop_words = shop.words();
-        let order_words = order.words();
-        let read = reference::Shop::read(&shop_words).expect("a well-formed shop");
-        Domain {
-            order: Network::read(&read, &order_words).expect("a well-formed order"),
-            shop: read,
-            draft: (shop, order),
-            shop_words,
-            order_words,
-        }
-    }
-
-    fn generate(random: &mut Random, size: Size) -> Domain {
-        let shop = generate::shop(random, size);
-        let goals = generate::goal_count(random, size);
-        let order = generate::order(random, shop.atoms, goals);
-        Domain::new(shop, order)
-    }
-
-    /// One in which up to 64 goals wait and most traces end well.
-    fn easy(random: &mut Random) -> Domain {
-        let shop = generate::easy_shop(random);
-        let goals = random.between(0, MAX_GOALS);
-        let order = generate::easy_order(random, shop.atoms, goals);
-        Domain::new(shop, order)
-    }
-
-    fn run(&self) -> Run<'_> {
-        let start = self.order.start;
-        Run::start(Rules::CALLS, &self.shop, &self.order, start).expect("at most 64 goals")
-    }
-
-    fn finished_walk(&self, random: &mut Random, most: usize) -> Vec<Step> {
-        walk::finished_walk(random, &self.shop, &mut self.run(), most)
-    }
-
-    /// A walk, then a step that fails one of the questions, then more steps.
-    fn failing_walk(&self, random: &mut Random, most: usize) -> Vec<Step> {
-        let mut run = self.run();
-        let habit = Habit::random(random);
-        let most = random.between(0, most);
-        let mut steps = walk::walk(random, &self.shop, &mut run, habit, most);
-        let question = random.pick(&[25, 26, 28, 29, 30, 31, 32]);
-        if let Some(step) = walk::failing_step(random, &self.shop, &run, question) {
-            steps.push(step);
-            let more = walk::walk(random, &self.shop, &mut run, Habit::FINISH, 10);
-            steps.extend(more);
-        }
-        steps
-    }
-
-    fn some_steps(&self, random: &mut Random, most: usize) -> Vec<Step> {
-        let mut steps = match random.below(20) {
-            0..10 => self.finished_walk(random, most),
-            10..18 => self.failing_walk(random, most),
-            _ => walk::random_steps(random, &self.shop, 10),
-        };
-        if random.chance(15) {
-            damage::steps(random, &mut steps);
-        }
-        steps.truncate(usize::from(MAX_STEPS));
-        steps
-    }
-
-    fn replay(&self, random: &mut Random, tally: &mut Tally, trace: &[u16]) {
-        let room = plan_room(random, trace);
-        let (shop, order) = (&self.shop_words, &self.order_words);
-        compare::replay(tally, random, shop, order, trace, room);
-    }
+fn replay(domain: &Domain, random: &mut Random, tally: &mut Tally, trace: &[u16]) {
+    let room = plan_room(random, trace);
+    let (shop, order) = (&domain.shop_words, &domain.order_words);
+    compare::replay(tally, random, shop, order, trace, room);
 }
 
 /// Mostly enough room for the plan, sometimes more, sometimes too little.
@@ -133,7 +58,7 @@ fn traces_case(random: &mut Random, tally: &mut Tally) {
     for _ in 0..16 {
         let steps = domain.some_steps(random, most);
         let trace = trace_words(&steps);
-        domain.replay(random, tally, &trace);
+        replay(&domain, random, tally, &trace);
     }
     let trace = trace_words(&domain.some_steps(random, most));
     compare::checks(tally, &domain.shop_words, &domain.order_words, &trace);
@@ -192,7 +117,7 @@ fn limits_case(random: &mut Random, tally: &mut Tally) {
     let most = random.pick(&[50, 300, 1000]);
     for _ in 0..3 {
         let trace = trace_words(&domain.some_steps(random, most));
-        domain.replay(random, tally, &trace);
+        replay(&domain, random, tally, &trace);
         compare::checks(tally, &domain.shop_words, &domain.order_words, &trace);
     }
     for _ in 0..2 {
@@ -262,26 +187,11 @@ fn long_case(random: &mut Random, tally: &mut Tally) {
     let left = most - steps.len();
     let end = walk::walk(random, &domain.shop, &mut run, Habit::FINISH, left);
     steps.extend(end);
-    fill_steps(&mut steps, &domain.shop, most);
-    domain.replay(random, tally, &trace_words(&steps));
+    walk::fill(&mut steps, &domain.shop, most);
+    replay(&domain, random, tally, &trace_words(&steps));
     damage::steps(random, &mut steps);
     steps.truncate(most);
-    domain.replay(random, tally, &trace_words(&steps));
-}
-
-/// Repeats an action without needs, if one was taken, until there are `most`
-/// steps: what was accepted still is.
-fn fill_steps(steps: &mut Vec<Step>, shop: &reference::Shop, most: usize) {
-    let repeats = |&(_, word): &Step| {
-        let action = usize::from(word).checked_sub(1);
-        let action = action.and_then(|index| shop.actions.get(index));
-        action.is_some_and(|action| action.needs == reference::Literals::EMPTY)
-    };
-    if let Some(number) = steps.iter().position(repeats) {
-        let step = steps[number];
-        let missing = most.saturating_sub(steps.len());
-        steps.splice(number..number, std::iter::repeat_n(step, missing));
-    }
+    replay(&domain, random, tally, &trace_words(&steps));
 }
 
 /// Searches on small domains, some of them damaged.

@@ -1,6 +1,6 @@
 //! Demand 3 on random pairs of orders: a trace is accepted on the join exactly
 //! when there is a cut, there is never more than one, and plan, cost and state
-//! are those of front and back together.
+//! are those of front and back together, and so are the lines of the listing.
 //!
 //! It is asked of the reference model on the join as a network, and of the proved
 //! library on the sheet that its join wrote, wherever the join fits one.
@@ -15,7 +15,7 @@ use differential::random::Random;
 use differential::walk::{self, Habit};
 use differential::{damage, runner};
 use liropuva::JOIN_ROOM;
-use reference::{Accepted, Atoms, MAX_GOALS, MAX_STEPS, Network, Rules, Run, Trace};
+use reference::{Accepted, Atoms, Line, MAX_GOALS, MAX_STEPS, Network, Rules, Run, Trace};
 
 const MISMATCH: &str = "accepted without a cut, or not with one";
 
@@ -106,6 +106,22 @@ impl Pair {
 
     fn run_back(&self, state: Atoms, trace: Trace<'_>) -> Option<Accepted> {
         reference::run(Rules::CALLS, &self.shop, &self.second, state, trace).ok()
+    }
+
+    fn join_lines(&self, trace: Trace<'_>) -> Option<Vec<Line>> {
+        reference::lines(Rules::CALLS, &self.shop, &self.join, self.join.start, trace)
+    }
+
+    /// The lines of the front, then those of the back, whose steps count from the
+    /// whole trace's first.
+    fn cut_lines(&self, trace: Trace<'_>, front: &Accepted) -> Option<Vec<Line>> {
+        let cut = front.steps;
+        let (first, second) = trace.split_at(cut);
+        let (rules, start) = (self.front_rules(), self.first.start);
+        let mut lines = reference::lines(rules, &self.shop, &self.first, start, first)?;
+        let back = reference::lines(Rules::CALLS, &self.shop, &self.second, front.state, second)?;
+        lines.extend(back.into_iter().map(|line| line.behind(cut)));
+        Some(lines)
     }
 
     /// Front and back of every cut that will do, with these rules for the front.
@@ -203,6 +219,7 @@ fn check_reference(pair: &Pair, words: &[u16]) {
     assert_eq!(joined.plan_count, front.plan_count + back.plan_count);
     assert_eq!(joined.cost, front.cost + back.cost);
     assert_eq!(joined.state, back.state);
+    assert_eq!(pair.join_lines(trace), pair.cut_lines(trace, front));
     ACCEPTED.fetch_add(1, Ordering::Relaxed);
 }
 

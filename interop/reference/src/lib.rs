@@ -1,16 +1,19 @@
-//! A plain and fast model of document 01.
+//! A plain and fast model of document 01, with the listing of document 02.
 //!
 //! It shares no code with the proved library, so that the two can be compared
 //! on any input, and it is the baseline of the benchmarks.
 //!
-//! The six public calls take the sheets as words, as the library does. Below
-//! them [`Shop`], [`Network`], [`Trace`] and [`Run`] are open for tests that
-//! walk step by step, join two orders as networks or run by other [`Rules`].
+//! The six public calls take the sheets as words, as the library does.
+//! [`listing()`] gives the lines of the listing program, and [`printed_listing`]
+//! what it prints. Below them [`Shop`], [`Network`], [`Trace`] and [`Run`] are open
+//! for tests that walk step by step, join two orders as networks or run by other
+//! [`Rules`].
 
 #![forbid(unsafe_code)]
 #![warn(missing_docs)]
 
 mod join;
+mod listing;
 mod literals;
 mod network;
 mod run;
@@ -18,6 +21,7 @@ mod search;
 mod sheet;
 mod unmet;
 
+pub use listing::{Line, OF_ORDER, lines, printed_listing};
 pub use literals::{Atoms, AtomsIter, Literals};
 pub use network::{Action, Method, Network, Node, Nodes, Shop};
 pub use run::{Accepted, METHOD_0, Rules, Run, Unaccepted, WaitingList, run};
@@ -78,6 +82,17 @@ pub fn replay(
         *word = action;
     }
     Ok(accepted)
+}
+
+/// The lines of the listing of an accepted trace; refused as [`replay`] with room
+/// for every plan is.
+pub fn listing(shop: &[u16], order: &[u16], trace: &[u16]) -> Result<Vec<Line>, ReplayRefusal> {
+    replay(shop, order, trace, &mut [0; MAX_STEPS as usize])?;
+    let shop = Shop::read(shop)?;
+    let order = Network::read(&shop, order)?;
+    let trace = Trace::check(trace)?;
+    let lines = lines(Rules::CALLS, &shop, &order, order.start, trace);
+    Ok(lines.expect("the replay accepts it"))
 }
 
 /// Questions 1 to 9, 11 to 18 and 41 to 43. Gives the number of steps found;
