@@ -21,7 +21,7 @@ ghost use Rattle.listing_main.specs.Pieces.{pieceBytes};
 ghost use Rattle.listing_main.specs.Turns.{WritesAll};
 ghost use Rattle.listing_main.specs.Answers.{Judges, Prints};
 
-// The room of a part: some dozens of the largest pieces, so that few calls write it out. A heading fits too.
+// The room of the text: some dozens of the largest pieces, so that few calls write it out. A heading fits too.
 const ROOM_BYTES: usize = 48 * PIECE_BYTES;
 
 // What the replay of three sheets says: accepted, or refused, and then its heading stands in the first bytes of a room, so many.

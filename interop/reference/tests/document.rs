@@ -2,6 +2,9 @@
 
 use reference::{Budget, Refusal, ReplayRefusal, Stopped};
 use reference::{check_order, check_shop, check_trace, replay, search};
+use words::sheet;
+
+mod words;
 
 const CORE_ROWS: [(u16, u16); 28] = [
     (1, 3),
@@ -33,14 +36,6 @@ const CORE_ROWS: [(u16, u16); 28] = [
     (8, 0),
     (9, 3),
 ];
-
-fn sheet(sizes: &[u16], rows: &[(u16, u16)]) -> Vec<u16> {
-    let mut words = sizes.to_vec();
-    words.push(rows.len() as u16);
-    words.extend(rows.iter().map(|row| row.0));
-    words.extend(rows.iter().map(|row| row.1));
-    words
-}
 
 fn trace(steps: &[(u16, u16)]) -> Vec<u16> {
     sheet(&[], steps)

@@ -1,15 +1,9 @@
 //! Listings that were worked out by hand from document 02, Req 03.
 
 use reference::{Line, listing, printed_listing};
+use words::sheet;
 
-/// Sizes without the number of rows, then rows, as words.
-fn sheet(sizes: &[u16], rows: &[(u16, u16)]) -> Vec<u16> {
-    let mut words = sizes.to_vec();
-    words.push(rows.len() as u16);
-    words.extend(rows.iter().map(|row| row.0));
-    words.extend(rows.iter().map(|row| row.1));
-    words
-}
+mod words;
 
 fn bytes(words: &[u16]) -> Vec<u8> {
     words.iter().flat_map(|word| word.to_le_bytes()).collect()
