@@ -1,11 +1,11 @@
 -- The steps of an accepted trace, one by one: what each gives to the text, and what is left of it. Assumes nothing.
-use Prim.Native.Nat.{ℕ, zero, suc, _+_, _<_}
+use Prim.Native.Nat.{ℕ, suc, _+_, _<_}
 use native.Mathlib.Omega.{arith}
 use native.Mathlib.Numerals.{add-one}
 use mathlib.Core.Path.{_≡_, refl, sym, ap, subst, _∙_}
 use mathlib.Core.List.{List, [], _∷_, _++_}
-use mathlib.Core.Option.{Option, none, some}
-use lib.ListN.{length, getElem?, drop, length-drop}
+use mathlib.Core.Option.{none, some}
+use lib.ListN.{length, drop, length-drop}
 use Rattle.hgn.specs.State.{State}
 use Rattle.hgn.specs.Run as Run
 use Rattle.hgn.specs.Run.{Step, Deed, Outcome, accepted, taken, stepped, runBy, run}
@@ -15,41 +15,20 @@ use Rattle.hgn.specs.Listing.{linesAt, linesOf}
 use Rattle.hgn.proofs.Run.Runs.{Resumes, resumes, ended-empty}
 use Rattle.step.specs.Steps.{problemIn}
 use Rattle.step.specs.declared.problem.Problem.{Problem}
-use Rattle.network.specs.declared.waiting.Place.{Place}
-use Rattle.trace_reader.specs.TraceRows.{rowAt, stepOf}
-use Rattle.trace_reader.proofs.RowLaws.{row-first}
-use Rattle.trace_reader.specs.declared.reader.TraceRow.{TraceRow}
-use Rattle.trace_reader.specs.declared.reader.TraceRow.the-variants as Rows
+use Rattle.trace_reader.specs.TraceRows.{rowAt}
+use Rattle.trace_reader.proofs.RowLaws.{row-first, row-none}
 use Rattle.listing.specs.Lines.{linesTold, Narrow, Follows, StepTold}
 use Rattle.listing.specs.declared.lines.Told.{Told}
 use Rattle.listing_main.specs.Listed.{linesText}
 use Rattle.listing_main.specs.Pieces.{pieceText, textFrom, textAhead, Ahead}
 use Rattle.listing_main.proofs.Pieces.{piece-is, lines-append}
 
-module _ {A : Type 0} where
-  some≢none : {x : A} → none ≡ some x → ⊥
-  some≢none e = let z : _≡_ {A = ℕ} 0 1 = cc in omega arith
-
-  -- Past the last element there is none.
-  drop-past : (l : List A) (i : ℕ) → getElem? l i ≡ none → drop i l ≡ []
-  drop-past [] zero e = refl
-  drop-past [] (suc i) e = refl
-  drop-past (y ∷ l) zero e = absurd (some≢none (sym e))
-  drop-past (y ∷ l) (suc i) e = drop-past l i e
-
--- What a reader tells of a row.
-pub row-step : {t : TraceRow} {o : Option Step} {move : ℕ} {place : Place} → stepOf t ≡ o → t ≡ Rows.Step move place → o ≡ some (record { move = move; place = place .0 })
-row-step e f = sym e ∙ ap stepOf f
-
-pub row-end : {t : TraceRow} {o : Option Step} → stepOf t ≡ o → t ≡ Rows.End → o ≡ none
-row-end e f = sym e ∙ ap stepOf f
-
 module _ (shop sheet trace : List ℕ) where
   -- Past the last step nothing is left of the text.
   pub nothing-ahead : {k : ℕ} {b : Problem} → Ahead shop sheet trace k b → rowAt trace k ≡ none → textAhead shop sheet trace k b ≡ []
   unfolding rowAt textFrom runBy linesOf linesText
   nothing-ahead {k} {b} a e =
-      let past = drop-past (stepsOf trace) k e in
+      let past = row-none trace k e in
       let none-done = ended-empty k (problemIn shop sheet b) (a .deeds) (a .last)
       (subst (λ (xs : List Step). run (rulesOf shop) k (problemIn shop sheet b) xs ≡ accepted (a .deeds) (a .last)) past (a .accepts)) .1 in
       ap (textFrom k) (a .accepts) ∙ ap (λ (ds : List Deed). linesText (linesOf k ds)) none-done

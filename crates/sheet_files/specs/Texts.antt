@@ -5,6 +5,8 @@ use mathlib.Core.Bool.{cond}
 use mathlib.Core.List.{List, [], _∷_, _++_}
 use lib.Dec.{ltb}
 use Rattle.io.specs.Digits.{digits}
+use Rattle.hgn.specs.State.{noAtom}
+use Rattle.hgn.specs.Questions.{Refusal}
 use Rattle.hgn.specs.Replay.{Replayed}
 
 -- The most digits of a number that is printed: they hold every 64-bit number.
@@ -40,6 +42,10 @@ heading number place count cost atom =
 abbrev pub headingOf : Replayed → List ℕ
 headingOf r =
     heading (r .answer .refusal .number) (r .answer .refusal .place) (r .answer .count) (r .answer .cost) (r .answer .atom)
+
+-- The heading of a call that answers a number and a place and nothing else: no plan, no cost, no atom.
+abbrev pub answerLine : Refusal → List ℕ
+answerLine q = heading (q .number) (q .place) 0 0 noAtom
 
 -- The most bytes of a number with the byte that ends it, and of the heading with its five numbers.
 abbrev pub numberBytes : ℕ

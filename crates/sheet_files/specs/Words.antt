@@ -1,8 +1,8 @@
--- The words of a file's bytes. Document 01, "One core of sixty centimetres".
-use Prim.Native.Nat.{ℕ, _+_, _*_}
+-- The words of a file's bytes, and the bytes of words. Document 01, "One core of sixty centimetres".
+use Prim.Native.Nat.{ℕ, _+_, _*_, _/_, _%_, _<_}
 use mathlib.Core.Path.{_≡_}
 use mathlib.Core.List.{List, [], _∷_, _++_}
-use lib.ListN.{length, take, drop}
+use lib.ListN.{length, getD, take, drop}
 use Rattle.hgn.specs.Rows.{mostRows}
 use Rattle.hgn.specs.Shop as Shop
 use Rattle.hgn.specs.Order as Order
@@ -45,7 +45,21 @@ orderWords = wordsRead orderBytes
 abbrev pub traceWords : List ℕ → List ℕ
 traceWords = wordsRead traceBytes
 
--- A room with words written over its first ones, and how many those are.
+-- The bytes of words, low byte first.
+unfoldable pub bytesOf : List ℕ → List ℕ
+bytesOf [] = []
+bytesOf (w ∷ rest) = w % 256 ∷ w / 256 ∷ bytesOf rest
+
+-- Bytes written of 16-bit words are bytes, two for each word, and are read again as the same words.
+pub record ReadBack (words : List ℕ) : Type 0 where
+  pub twice : length (bytesOf words) ≡ 2 * length words
+  pub below : (i : ℕ) → getD (bytesOf words) i 0 < 256
+  pub same : wordsOf (bytesOf words) ≡ words
+
+abbrev pub BytesAreReadBack : Type 0
+BytesAreReadBack = (words : List ℕ) → ((i : ℕ) → getD words i 0 < 65536) → ReadBack words
+
+-- A room with words or bytes written over its first ones, and how many those are.
 pub record Filled (words before room : List ℕ) (count : ℕ) : Type 0 where
   pub counts : count ≡ length words
   pub holds : room ≡ words ++ drop (length words) before

@@ -33,11 +33,16 @@ enum Piece {
     Failed,
 }
 
-// On standard error: the program, the file, and the operating system's reason.
-fn tell_failure(program: &[u8], name: &[u8]) {
+// On standard error: the program, what it could not do (between a colon and the name), the file, and the operating system's reason. The
+// reason is that of the call before, so this comes right behind the call that failed.
+pub fn tell_failure(program: &[u8], deed: &[u8], name: &[u8]) {
     io::write_all(libc::STDERR_FILENO, program);
-    io::write_all(libc::STDERR_FILENO, b": cannot read ");
+    io::write_all(libc::STDERR_FILENO, deed);
     os::fail(name);
+}
+
+fn tell_unread(program: &[u8], name: &[u8]) {
+    tell_failure(program, b": cannot read ", name);
 }
 
 // One read into the rest of the room; 0 bytes at the file's end.
@@ -75,12 +80,12 @@ fn read_open(fd: i32, program: &[u8], name: &[u8], room: &mut [u8]) -> Reading
             }
             Piece::Interrupted => {}
             Piece::Failed => {
-                tell_failure(program, name);
+                tell_unread(program, name);
                 return Reading::Failed;
             }
         }
     }
-    tell_failure(program, name);
+    tell_unread(program, name);
     Reading::Failed
 }
 
@@ -95,7 +100,7 @@ pub fn read(program: &[u8], name: &[u8], room: &mut [u8]) -> Reading
         if os::errno() == libc::ENOENT {
             return Reading::Bytes(0);
         }
-        tell_failure(program, name);
+        tell_unread(program, name);
         return Reading::Failed;
     }
     let reading = read_open(fd, program, name, room);

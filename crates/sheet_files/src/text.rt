@@ -1,10 +1,13 @@
 // Numbers as decimal text, and the line that begins an answer. Document 01, "One core of sixty centimetres"; document 02, Req 01.
+use sheet_rows::refusal::Refusal;
+use state::atoms;
 ghost use mathlib.Core.Path.{_≡_};
 ghost use mathlib.Core.List.{_++_};
 ghost use Prim.Native.Nat.{_+_, _≤_};
 ghost use lib.ListN.{length, take};
 ghost use lib.Seq.{paste};
-ghost use Rattle.sheet_files.specs.Texts.{ended, heading, numberBytes, headingBytes};
+ghost use Rattle.sheet_rows.specs.Refusals.{refusalOf};
+ghost use Rattle.sheet_files.specs.Texts.{ended, heading, answerLine, numberBytes, headingBytes};
 
 // The room that a text takes.
 pub struct Text;
@@ -63,4 +66,12 @@ pub fn put_heading(
     let third = put(text, second, count as u64, b' ');
     let fourth = put(text, third, cost as u64, b' ');
     put(text, fourth, atom as u64, b'\n')
+}
+
+// The first line of a call that answers a number and a place and nothing else.
+pub fn put_refusal(text: &mut [u8], refusal: Refusal) -> usize
+    requires { ⌜ headingBytes ≤ length (now text) ⌝ }
+    ensures { λ r. ⌜ take r (now (text .exit)) ≡ answerLine (refusalOf refusal) ⌝ }
+{
+    put_heading(text, refusal.number, refusal.place, 0, 0, atoms::NO_ATOM)
 }

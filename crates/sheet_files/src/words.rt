@@ -1,9 +1,9 @@
-// Words of bytes. Document 01, "One core of sixty centimetres".
+// Words of bytes, and bytes of words. Document 01, "One core of sixty centimetres".
 use crate::file;
 ghost use mathlib.Core.Path.{_≡_};
-ghost use Prim.Native.Nat.{_/_, _≤_};
+ghost use Prim.Native.Nat.{_*_, _/_, _%_, _≤_};
 ghost use lib.ListN.{length, take};
-ghost use Rattle.sheet_files.specs.Words.{wordOf, wordsOf, Filled, wordsRead, shopBytes, orderBytes, traceBytes, shopWords, orderWords, traceWords};
+ghost use Rattle.sheet_files.specs.Words.{wordOf, wordsOf, bytesOf, Filled, wordsRead, shopBytes, orderBytes, traceBytes, shopWords, orderWords, traceWords};
 
 // The low byte comes first.
 fn word(low: u8, high: u8) -> u16
@@ -56,6 +56,32 @@ pub fn trace_words(bytes: &[u8], room: &mut [u16]) -> usize
     ensures { λ r. ⌜ Filled (traceWords (now (bytes .entry))) (now (room .entry)) (now (room .exit)) r ⌝ }
 {
     words_read(bytes, file::TRACE_BYTES, room)
+}
+
+fn low_byte(word: u16) -> u8
+    ensures { λ r. ⌜ r ≡ word % 256 ⌝ }
+{
+    (word % 256) as u8
+}
+
+fn high_byte(word: u16) -> u8
+    ensures { λ r. ⌜ r ≡ word / 256 ⌝ }
+{
+    (word / 256) as u8
+}
+
+// The bytes of the words go into the first bytes of the room, two for each word. Answers how many.
+pub fn bytes_of(words: &[u16], room: &mut [u8]) -> usize
+    requires { ⌜ 2 * length (now words) ≤ length (now room) ⌝ }
+    ensures { λ r. ⌜ Filled (bytesOf (now (words .entry))) (now (room .entry)) (now (room .exit)) r ⌝ }
+{
+    let mut i = 0;
+    while i < words.len() {
+        room[2 * i] = low_byte(words[i]);
+        room[2 * i + 1] = high_byte(words[i]);
+        i += 1;
+    }
+    2 * words.len()
 }
 
 // The first bytes, so many or all.

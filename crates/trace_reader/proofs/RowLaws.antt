@@ -4,15 +4,18 @@ use Prim.Native.Nat.{ℕ, zero, suc, _+_, _-_, _<_, _≤_, min}
 use native.Mathlib.Omega.{arith}
 use native.Mathlib.Numerals.{add-one}
 use native.Mathlib.Nat.{not-suc-le-zero, le-of-suc-le-suc}
-use mathlib.Core.Path.{_≡_, refl, ap, ap₂, _∙_}
+use mathlib.Core.Path.{_≡_, refl, sym, ap, ap₂, _∙_}
 use mathlib.Core.List.{List, [], _∷_, zipWith}
-use mathlib.Core.Option.{none, some, Option·some-injective, Option·none-ne-some}
+use mathlib.Core.Option.{Option, none, some, Option·some-injective, Option·none-ne-some}
 use lib.ListN.{length, getD, getElem?, take, drop, length-take, length-drop}
 use lib.Seq.{getD-take, getD-drop}
 use Rattle.hgn.specs.Run.{Step}
 use Rattle.hgn.specs.Trace.{stepCount, stepsOf, step}
+use Rattle.network.specs.declared.waiting.Place.{Place}
 use Rattle.sheet_check.proofs.Lookup.{getD-zipWith}
-use Rattle.trace_reader.specs.TraceRows.{rowAt}
+use Rattle.trace_reader.specs.TraceRows.{rowAt, stepOf}
+use Rattle.trace_reader.specs.declared.reader.TraceRow.{TraceRow}
+use Rattle.trace_reader.specs.declared.reader.TraceRow.the-variants as Rows
 
 module _ {A : Type 0} where
   there : (l : List A) (i : ℕ) (d : A) → i < length l → getElem? l i ≡ some (getD l i d)
@@ -29,6 +32,12 @@ module _ {A : Type 0} where
   found-first [] i x e = absurd (Option·none-ne-some x e)
   found-first (y ∷ l) zero x e = ap {B = List A} (λ z. z ∷ l) (Option·some-injective y x e)
   found-first (y ∷ l) (suc i) x e = found-first l i x e
+
+  none-past : (l : List A) (i : ℕ) → getElem? l i ≡ none → drop i l ≡ []
+  none-past [] zero e = refl
+  none-past [] (suc i) e = refl
+  none-past (y ∷ l) zero e = absurd (Option·none-ne-some y (sym e))
+  none-past (y ∷ l) (suc i) e = none-past l i e
 
 -- A list of pairs is as long as the shorter of the two.
 module _ {A B C : Type 0} (f : A → B → C) where
@@ -76,3 +85,15 @@ module _ (trace : List ℕ) (i : ℕ) where
   pub row-first : (x : Step) → rowAt trace i ≡ some x → drop i (stepsOf trace) ≡ x ∷ drop (i + 1) (stepsOf trace)
   unfolding rowAt
   row-first x e = rw (add-one i) (found-first (stepsOf trace) i x e)
+
+  -- From a row past the last on there are none.
+  pub row-none : rowAt trace i ≡ none → drop i (stepsOf trace) ≡ []
+  unfolding rowAt
+  row-none e = none-past (stepsOf trace) i e
+
+-- What the code tells of a row.
+pub row-step : {t : TraceRow} {o : Option Step} {move : ℕ} {place : Place} → stepOf t ≡ o → t ≡ Rows.Step move place → o ≡ some (record { move = move; place = place .0 })
+row-step e f = sym e ∙ ap stepOf f
+
+pub row-end : {t : TraceRow} {o : Option Step} → stepOf t ≡ o → t ≡ Rows.End → o ≡ none
+row-end e f = sym e ∙ ap stepOf f

@@ -4,7 +4,8 @@ use borrow.Author.Needs.{needs}
 use lib.ListN.{length}
 use Rattle.listing_main.specs.Turns.{Spaced}
 use Rattle.listing_main.specs.declared.steps.Space.the-variants.{Behind}
-use Rattle.listing_main.proofs.Ahead.{row-step, row-end, told-narrow}
+use Rattle.trace_reader.proofs.RowLaws.{row-step, row-end}
+use Rattle.listing_main.proofs.Ahead.{told-narrow}
 use Rattle.listing_main.proofs.TurnLaws.{turn-step, turn-unwritten, turn-end}
 use Rattle.listing_main.proofs.steps.turn.Statement.{statement}
 use Rattle.listing_main.proofs.steps.turn.Tie as tie
