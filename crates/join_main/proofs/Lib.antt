@@ -1,0 +1,3 @@
+-- Laws of the definitions in the shape that the code asks for.
+pub mod Comparing
+pub mod Answering

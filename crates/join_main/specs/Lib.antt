@@ -1,0 +1,2 @@
+-- What the join program prints and writes for its files' bytes.
+pub mod Printed
