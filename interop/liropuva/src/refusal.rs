@@ -79,46 +79,9 @@ macro_rules! questions {
     };
 }
 
-/// Every question, by rising numbers. `docs/REFUSALS.md` explains each; a test
-/// holds that page to this list.
-pub const QUESTIONS: &[Question] = questions! {
-     1 Shop   Whole  "is the shop sheet at least 4 words long?"
-     2 Shop   Whole  "are the shop sheet's sizes in range?"
-     3 Shop   Whole  "is the shop sheet as long as its rows make it?"
-     4 Shop   Row    "may this tag follow here in the shop sheet?"
-     5 Shop   Row    "is this value of the shop sheet in range?"
-     6 Shop   Row    "is this value of the shop sheet above the one before it in its group?"
-     7 Shop   Whole  "may the shop sheet end here?"
-     8 Shop   Whole  "has the shop sheet as many actions and methods as it says?"
-     9 Shop   Method "has this method 1 to 63 nodes, the last with one alternative and no after?"
-    11 Order  Whole  "is the order sheet at least 3 words long?"
-    12 Order  Whole  "has the order sheet the shop's atoms, and are its sizes in range?"
-    13 Order  Whole  "is the order sheet as long as its rows make it?"
-    14 Order  Row    "may this tag follow here in the order sheet?"
-    15 Order  Row    "is this value of the order sheet in range?"
-    16 Order  Row    "is this value of the order sheet above the one before it in its group?"
-    17 Order  Whole  "may the order sheet end here?"
-    18 Order  Whole  "has the order sheet as many goals as it says?"
-    21 Trace  Whole  "is the trace at least 1 word long?"
-    22 Trace  Whole  "has the trace at most 4,096 steps?"
-    23 Trace  Whole  "is the trace as long as its steps make it?"
-    24 Replay Whole  "is there room for as many words of plan as the trace has steps?"
-    25 Replay Step   "is the place below the number of goals waiting?"
-    26 Replay Step   "is the move a release, an action or a method of the shop?"
-    27 Replay Step   "is any waiting goal free?"
-    28 Replay Step   "is this goal free?"
-    29 Replay Step   "does the goal to be released hold?"
-    30 Replay Step   "do the needs of the action or method hold?"
-    31 Replay Step   "is the action or method relevant to this goal?"
-    32 Replay Step   "do at most 64 goals wait after the method?"
-    33 Replay End    "does nothing wait after the last step?"
-    41 Search Whole  "is the depth at most 32?"
-    42 Search Whole  "is there room for a trace of that depth?"
-    43 Search Whole  "is there an accepted trace of at most that many steps?"
-    81 Join   Whole  "have the two orders at most 64 goals together?"
-    82 Join   Whole  "has the joined sheet at most 4,000 rows?"
-    83 Join   Whole  "is there room for the joined sheet?"
-};
+/// Every question, by rising numbers, from the file that the launchers read too.
+/// `docs/REFUSALS.md` explains each; a test holds that page to this list.
+pub const QUESTIONS: &[Question] = include!("../../../text/questions.rs");
 
 impl Refusal {
     /// What was asked; `None` of a number that this wrapper does not know.
