@@ -1,10 +1,10 @@
-# launching.sh: what the tests of the launchers share; `launcher` and `listing` source it, at the repository's root. Before that a test sets
-# `test`, its own name, and `program`, the launcher's. The folder `$work` is for the test's files and goes away with it.
+# launching.sh: what the tests of the launchers share; they source it, at the repository's root. Before that a test sets `test`, its own name,
+# and `program`, the launcher's. The folder `$work` is for the test's files and goes away with it.
 
 work=$(mktemp -d)
 trap 'chmod -R u+rwx "$work"; rm -rf "$work"' EXIT
 
-announced="$program: proving and building what is not proved yet; all of it takes about four minutes on two cores"
+announced="$program: proving and building what is not proved yet; all of it takes about five minutes on two cores"
 
 # wrong TEXT: ends the test.
 wrong() {
@@ -12,8 +12,8 @@ wrong() {
     exit 1
 }
 
-# check NAME STATUS TEXT FOLDER: the status and the text on standard output; with status 2 a line on standard error that names the
-# program, and else none, but that rt takes long, where a slow machine has it so.
+# check NAME STATUS TEXT FOLDER: the status and the text on standard output; with status 2 a line on standard error that names the program;
+# with 1 the refusal in words, by its number; with 0 nothing there, but that rt takes long, where a slow machine has it so.
 check() {
     printf '%s' "$3" >"$work/wanted"
     check_file "$1" "$2" "$work/wanted" "$4"
@@ -28,11 +28,20 @@ check_file() {
         head -c 400 "$work/out"
         exit 1
     fi
-    if [ "$2" = 2 ]; then
-        grep -q "^$program: " "$work/err" || wrong "$1: nothing is said on standard error"
-    elif grep -qvx "$announced" "$work/err"; then
-        wrong "$1: standard error is not empty"
-    fi
+    check_said "$1" "$2"
+}
+
+# check_said NAME STATUS: what the run before said on standard error, as `check` has it.
+check_said() {
+    case $2 in
+    2) grep -q "^$program: " "$work/err" || wrong "$1: nothing is said on standard error" ;;
+    1)
+        told=$(cut -d ' ' -f 1 "$work/out")
+        grep -vx "$announced" "$work/err" | head -n 1 | grep -q "^refused ($told)" || wrong "$1: standard error does not begin with the refusal"
+        grep -qx "  what to do: docs/REFUSALS.md, $told" "$work/err" || wrong "$1: standard error does not say what to do"
+        ;;
+    *) ! grep -vx "$announced" "$work/err" || wrong "$1: standard error has the lines above" ;;
+    esac
 }
 
 # copy: a copy of the example to change.
@@ -51,7 +60,7 @@ one_step() {
 check_usage() {
     "./$program" -h >"$work/usage" 2>"$work/err" || wrong "-h: status $?"
     [ ! -s "$work/err" ] || wrong '-h: standard error is not empty'
-    [ "$(head -n 1 "$work/usage")" = "usage: $program [FOLDER]" ] || wrong '-h: no usage'
+    head -n 1 "$work/usage" | grep -q "^usage: $program " || wrong '-h: no usage'
     "./$program" --help 2>&1 | cmp - "$work/usage"
     status=0; "./$program" examples/long-core examples >"$work/out" 2>"$work/err" || status=$?
     [ "$status" = 2 ] || wrong "two folders: status $status"
@@ -61,16 +70,24 @@ check_usage() {
     [ "$status" = 2 ] || wrong "the usage to a full disk: status $status"
 }
 
-# stand_in: a copy of the launcher in `$work/bare`, with a stand-in for rt that does there what the file `rt-does` says.
+# stand_in: a copy of the launchers in `$work/bare`, with a stand-in for rt that does there what the file `rt-does` says.
 stand_in() {
     mkdir "$work/bare" "$work/bin"
-    cp "$program" launch.sh "$work/bare/"
+    cp -R replay listing search join sheet launch.sh text "$work/bare/"
     printf '#!/bin/sh\n. "%s/rt-does"\n' "$work" >"$work/bin/rt"
     chmod +x "$work/bin/rt"
 }
 
-# launch_bare FOLDER: that launcher with that stand-in; leaves `status`, and the outputs in the files `out` and `err`.
+# stand_in_proved: the same with every program built, as if rt found nothing to prove: what rt does takes most of a launcher's time.
+stand_in_proved() {
+    stand_in
+    : >"$work/rt-does"
+    mkdir -p "$work/bare/target/log"
+    ln -s "$PWD/target/bin" "$work/bare/target/bin"
+}
+
+# launch_bare ARGUMENTS: that launcher with that stand-in; leaves `status`, and the outputs in the files `out` and `err`.
 launch_bare() {
     status=0
-    PATH="$work/bin:$PATH" "$work/bare/$program" "$1" >"$work/out" 2>"$work/err" || status=$?
+    PATH="$work/bin:$PATH" "$work/bare/$program" "$@" >"$work/out" 2>"$work/err" || status=$?
 }
