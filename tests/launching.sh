@@ -78,9 +78,12 @@ stand_in() {
     chmod +x "$work/bin/rt"
 }
 
+is_proved=no
+
 # stand_in_proved: the same with every program built, as if rt found nothing to prove: what rt does takes most of a launcher's time.
 stand_in_proved() {
     stand_in
+    is_proved=yes
     : >"$work/rt-does"
     mkdir -p "$work/bare/target/log"
     ln -s "$PWD/target/bin" "$work/bare/target/bin"
@@ -90,4 +93,11 @@ stand_in_proved() {
 launch_bare() {
     status=0
     PATH="$work/bin:$PATH" "$work/bare/$program" "$@" >"$work/out" 2>"$work/err" || status=$?
+    [ "$is_proved" = no ] || drop_announced
+}
+
+# drop_announced: takes out of the file `err` that rt takes long, which a slow machine may have a launcher say even where nothing is to be proved.
+drop_announced() {
+    grep -v '^[a-z]*: proving and building what is not proved yet' "$work/err" >"$work/kept" || :
+    mv "$work/kept" "$work/err"
 }

@@ -21,15 +21,20 @@ function wrong(text) {
 
 # What must hold.
 
-# Of the sheets in `word`: their text with numbers for names is read as the same words, and written again as the same text; and
-# so is their text with other names.
-function check_sheets(what) {
+# Takes the sheets in `word` apart, as if they stood in a folder without texts.
+function decode_sheets() {
     sheets_checked++
     state_of["shop"] = state_of["order"] = "whole"
     state_of["shop.txt"] = state_of["order.txt"] = "absent"
     decode_shop()
     decode_order()
     choose_names()
+}
+
+# Of the sheets in `word`: their text with numbers for names is read as the same words, and written again as the same text; and
+# so is their text with other names.
+function check_sheets(what) {
+    decode_sheets()
     if (shop_named || order_named) wrong(what ": names without a text")
     check_text(what)
     other_names()
@@ -273,12 +278,7 @@ function add_filling(sizes, rest) {
 
 # The texts with other names, and the rows as `sheet shop` and `sheet order` read them.
 function write_files(folder) {
-    sheets_checked++
-    state_of["shop.txt"] = state_of["order.txt"] = "absent"
-    state_of["shop"] = state_of["order"] = "whole"
-    decode_shop()
-    decode_order()
-    choose_names()
+    decode_sheets()
     other_names()
     write_file(folder, "shop.txt")
     write_file(folder, "order.txt")
