@@ -1,5 +1,7 @@
 // The six public calls for a caller of C: plain names, and each answer written where the caller lends room for it. Document 01,
 // "Questions". `include/liropuva.h` declares them.
+#![tactic(auto)]
+
 ghost use Rattle.std.specs.Prelude.{◌≡◌};
 ghost use Rattle.hgn.specs.Shop.{check_shop};
 ghost use Rattle.hgn.specs.Order.{check_order};

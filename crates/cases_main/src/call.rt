@@ -7,7 +7,7 @@ use crate::text::equals;
 use crate::{joined, line, listed, replayed, room, searched, sheet, stepping};
 use sheet_check::check::{check_order, check_shop, check_trace};
 
-#[derive(Drop)]
+#[derive(Clone, Copy)]
 pub enum Call {
     Shop,
     Order,
@@ -21,7 +21,7 @@ pub enum Call {
 }
 
 // What a name is the name of.
-#[derive(Drop)]
+#[derive(Clone, Copy)]
 pub enum Named {
     Call(Call),
     Nothing,

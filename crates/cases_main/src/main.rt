@@ -2,6 +2,8 @@
 // and what was answered. A case is a line `CALL: NAME; SHOP | ORDER | TRACE | ROOM`, with the parts that the call takes, or
 // `CALL: NAME; same | TRACE | ROOM` on the sheets of the last line `with SHOP | ORDER`. A case of relevance, which is no call, is a line
 // `relevance: NAME; EFFECTS | WANTED`. The top of `stdin` says it at length.
+#![tactic(auto)]
+
 mod call;
 mod case;
 mod joined;

@@ -18,14 +18,14 @@ use state::literals::{Literal, LiteralTags};
 use state::relevance::{Relevance, relevance_to_node};
 
 // What is told of effects and a goal, and the two tags that the effects have.
-#[derive(Drop)]
+#[derive(Clone, Copy)]
 pub struct Told {
     relevance: Relevance,
     signs: LiteralTags,
 }
 
 // What a case of relevance answers: what is told, or nothing where its parts are not two lists of rows.
-#[derive(Drop)]
+#[derive(Clone, Copy)]
 pub enum Answer {
     Told(Told),
     Unreadable,

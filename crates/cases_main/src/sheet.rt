@@ -24,7 +24,7 @@ pub const ROOM: usize = Shop::SIZES + 2 * (u16::MAX as usize) + 1;
 const MOST_BYTES: u32 = 10000000;
 
 // Where the reading of a text stands.
-#[derive(Drop)]
+#[derive(Clone, Copy)]
 struct Pen {
     // The numbers so far, and the one that is being read.
     at: usize,

@@ -8,7 +8,7 @@ use replay::first;
 use sheet_index::index::Tables;
 use step::problem::Problem;
 
-#[derive(Drop)]
+#[derive(Clone, Copy)]
 pub struct Start {
     pub tables: [u16; Tables::WORDS],
     pub problem: Problem,

@@ -24,7 +24,7 @@ use step::moves::Step;
 use step::problem::{Problem, Stepped};
 
 // What is written of steps: what each shows, or what the refused ones show and then what brought the waiting goals in.
-#[derive(Drop)]
+#[derive(Clone, Copy)]
 pub enum View {
     Steps,
     Goals,

@@ -23,7 +23,7 @@ use step::problem::Problem;
 use trace_reader::reader::{TraceRow, step_at};
 
 // All of a text went to standard output, and with what went before it that makes so many bytes; or not all of it could be written.
-#[derive(Drop)]
+#[derive(Clone, Copy)]
 pub enum Shown {
     Bytes(usize),
     Unwritten,

@@ -1,5 +1,7 @@
 // The display program: reads the files `shop`, `order` and `trace` of the current folder, steps through the trace on the display and prints each
 // moment, that is, which atoms are true and which goals wait. Document 01, "How a derivation runs".
+#![tactic(auto)]
+
 mod answer;
 mod line;
 mod moment;

@@ -21,7 +21,7 @@ use step::problem::{Problem, Stepped};
 pub const TURN_BYTES: usize = FOUR_BYTES + MOMENT_BYTES;
 
 // A step that was shown, and how many bytes of a room its text takes.
-#[derive(Drop)]
+#[derive(Clone, Copy)]
 pub struct Turn {
     pub shown: Stepped,
     pub end: usize,

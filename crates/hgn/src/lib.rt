@@ -1,1 +1,2 @@
 // The planning model. It has no code yet.
+#![tactic(auto)]

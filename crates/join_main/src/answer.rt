@@ -21,7 +21,7 @@ const ROOM_WORDS: usize = Order::SIZES + 2 * (Layout::MOST_ROWS as usize);
 pub const FILE_BYTES: usize = 2 * ROOM_WORDS;
 
 // The two orders are of different shops; or how many bytes the line has, and, where the join is written, how many its file has.
-#[derive(Drop)]
+#[derive(Clone, Copy)]
 pub enum Answer {
     OtherShop,
     Refused(usize),

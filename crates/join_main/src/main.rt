@@ -1,5 +1,7 @@
 // The join program: reads the files `shop` and `first` of the current folder, the shop and the order sheet of one folder, and `other-shop` and
 // `second`, those of another. It prints what the join answers, and leaves the joined sheet in the new file `order`. Document 02, Req 02.
+#![tactic(auto)]
+
 mod answer;
 mod same;
 

@@ -15,7 +15,7 @@ use network::waiting::{Entry, Name, Place};
 
 // How many goals stand above the goal, the step that released it, and the step and the method that brought it in, both `Name::ORDER` for a
 // goal of the order.
-#[derive(Drop)]
+#[derive(Clone, Copy)]
 pub struct Line {
     pub above: u16,
     pub released: u16,

@@ -15,7 +15,7 @@ use step::questions::Decision;
 use step::taking;
 
 // What a step gives to the listing: the line of the goal that it releases, or nothing.
-#[derive(Drop)]
+#[derive(Clone, Copy)]
 pub enum Told {
     Released(Line),
     Nothing,

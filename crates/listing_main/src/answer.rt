@@ -21,14 +21,14 @@ use sheet_index::index::Tables;
 const ROOM_BYTES: usize = 48 * PIECE_BYTES;
 
 // What the replay of three sheets says: accepted, or refused, and then its heading stands in the first bytes of a room, so many.
-#[derive(Drop)]
+#[derive(Clone, Copy)]
 enum Verdict {
     Accepted,
     Refused(usize),
 }
 
 // What went to standard output: the tree of an accepted trace, or the line of a refused one; or not all of it was written.
-#[derive(Drop)]
+#[derive(Clone, Copy)]
 pub enum Printed {
     Tree,
     Refusal,

@@ -1,5 +1,7 @@
 // The listing program: reads the files `shop`, `order` and `trace` of the current folder and prints the derivation as an indented tree, or of a
 // refused trace the line with which the replay program's answer begins. Document 02, Req 03.
+#![tactic(auto)]
+
 mod answer;
 mod line;
 mod piece;

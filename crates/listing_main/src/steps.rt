@@ -15,7 +15,7 @@ use step::moves::Step;
 use trace_reader::reader::{TraceRow, advance, open, read, row};
 
 // What stands at a row of the trace, and how many bytes of text the room holds.
-#[derive(Drop)]
+#[derive(Clone, Copy)]
 pub struct Reached {
     pub step: TraceRow,
     pub row: Row,
@@ -23,7 +23,7 @@ pub struct Reached {
 }
 
 // How many bytes of text the room holds; whether a further step is to be read; and whether all that was to be written was written.
-#[derive(Drop)]
+#[derive(Clone, Copy)]
 pub struct Progress {
     pub end: usize,
     pub more: bool,
@@ -31,7 +31,7 @@ pub struct Progress {
 }
 
 // Where the next piece goes, behind so many bytes of the room; or what the room held could not be written out.
-#[derive(Drop)]
+#[derive(Clone, Copy)]
 pub enum Space {
     Behind(usize),
     Unwritten,

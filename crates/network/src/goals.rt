@@ -26,7 +26,7 @@ use sheet_index::operators;
 use sheet_rows::position::Sheet;
 
 // How many goals wait, then the words of each, in the order of their places.
-#[derive(Drop)]
+#[derive(Clone, Copy)]
 pub struct Goals {
     pub words: [u16; Goals::WORDS],
 }
@@ -259,7 +259,7 @@ fn open_gap(goals: &mut [u16; Goals::WORDS], place: Place, more: u16)
 
 // The nodes of a network that enter the list: its origin, the method whose network it is (`Name::ORDER` for the order's), its parent, the
 // rows in which the nodes stand, and how many they are.
-#[derive(Drop)]
+#[derive(Clone, Copy)]
 pub struct Entering {
     pub origin: u16,
     pub method: u16,
@@ -381,7 +381,7 @@ pub fn decompose<'a>(
 }
 
 // A waiting goal, and whether it is free.
-#[derive(Drop)]
+#[derive(Clone, Copy)]
 pub struct GoalStatus {
     pub goal: Entry,
     pub free: bool,

@@ -7,11 +7,11 @@ use sheet_index::index::Span;
 use sheet_rows::position::Sheet;
 
 // A place in the waiting list, from 0.
-#[derive(Drop)]
+#[derive(Clone, Copy)]
 pub struct Place(pub u16);
 
 // The network that a waiting goal came with, `Name::ORDER` or the step whose method brought it in, and its number there.
-#[derive(Drop)]
+#[derive(Clone, Copy)]
 pub struct Name {
     pub origin: u16,
     pub number: u16,
@@ -20,7 +20,7 @@ pub struct Name {
 // A waiting goal: its rows, its name, the number of the method that brought it in (from 0, `Name::ORDER` for a goal of the order; the step
 // that used the method is its name's origin), the name of the goal at which that method was used (of no meaning for a goal of the order),
 // and whether it is its method's last node, which comes after all the others.
-#[derive(Drop)]
+#[derive(Clone, Copy)]
 pub struct Entry {
     pub rows: Span,
     pub name: Name,

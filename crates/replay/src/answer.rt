@@ -10,7 +10,7 @@ use step::failure::Failure;
 
 // The first question that is answered no, its number 0 for none; the last state, the plan's length and its cost; and the first atom that is
 // not as wanted, 256 for none: only 29 and 30 name one.
-#[derive(Drop)]
+#[derive(Clone, Copy)]
 pub struct Answer {
     pub refusal: Refusal,
     pub state: State,

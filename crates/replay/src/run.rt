@@ -26,7 +26,7 @@ use step::questions::Decision;
 use step::taking;
 
 // How many actions were taken, and the sum of their costs.
-#[derive(Drop)]
+#[derive(Clone, Copy)]
 pub struct Totals {
     pub count: u16,
     pub cost: u32,

@@ -1,5 +1,7 @@
 // The replay program: reads the files `shop`, `order` and `trace` of the current folder and prints what the replay answers.
 // Document 01, "One core of sixty centimetres".
+#![tactic(auto)]
+
 mod answer;
 
 use libc::STDOUT_FILENO;

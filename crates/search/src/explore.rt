@@ -27,7 +27,7 @@ use step::taking;
 
 // Where a search stands: the last step, how many steps are left, the number of the next, and how many branches
 // ran out of steps before it.
-#[derive(Drop)]
+#[derive(Clone, Copy)]
 pub struct Node {
     pub last: Choice,
     pub left: u16,

@@ -8,7 +8,7 @@ use network::waiting::Place;
 
 // Whether a trace was found; its moves and places, each at the number of its step; if none was found, how many branches
 // ran out of steps, as far as they are counted.
-#[derive(Drop)]
+#[derive(Clone, Copy)]
 pub struct Found {
     pub found: bool,
     pub moves: [u16; Found::MOST as usize],

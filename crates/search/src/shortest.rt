@@ -21,7 +21,7 @@ use sheet_check::check::Shop;
 use sheet_index::index::Tables;
 
 // The first of the shortest traces and its length; or no trace, and then the depth.
-#[derive(Drop)]
+#[derive(Clone, Copy)]
 pub struct Shortest {
     pub length: u16,
     pub steps: Found,

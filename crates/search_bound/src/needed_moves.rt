@@ -5,7 +5,7 @@ ghost use Rattle.search_bound.specs.NeededMoves.{most_needed, hopeless_at, neede
 
 use sheet_check::check::Shop;
 
-#[derive(Drop)]
+#[derive(Clone, Copy)]
 pub struct NeededMoves {}
 
 impl NeededMoves {

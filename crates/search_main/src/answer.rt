@@ -19,7 +19,7 @@ const ROOM_WORDS: usize = Trace::SIZES + 2 * (found::Found::MOST as usize);
 pub const FILE_BYTES: usize = 2 * ROOM_WORDS;
 
 // How many bytes the line has; and, where a trace is found, how many its file has.
-#[derive(Drop)]
+#[derive(Clone, Copy)]
 pub enum Answer {
     Refused(usize),
     Found(usize, usize),

@@ -5,14 +5,14 @@ use libc::STDERR_FILENO;
 use sheet_files::words::front;
 
 // The depth, and how many bytes of the file's name stand in the room; or a failure that has been told.
-#[derive(Drop)]
+#[derive(Clone, Copy)]
 pub enum Asked {
     For(u32, usize),
     Wrong,
 }
 
 // An argument, so many bytes of the room; or it is absent, or too long for the room.
-#[derive(Drop)]
+#[derive(Clone, Copy)]
 enum Word {
     Bytes(usize),
     Unread,

@@ -5,7 +5,7 @@ ghost use Rattle.search_main.specs.Depths.{is_digit, zero_digit, capped, first_t
 use search::found::Found;
 
 // What a text says: a depth, at most the first that is too deep; or it is no number.
-#[derive(Drop)]
+#[derive(Clone, Copy)]
 pub enum Depth {
     Is(u32),
     NoNumber,

@@ -1,6 +1,8 @@
 // The search program: `search_main DEPTH NAME` reads the files `shop` and `order` of the current folder, prints what the search answers, and leaves
 // the trace that it finds in the file `trace`. NAME is one that no file of the folder has: the trace is written under it, and renamed once it
 // is whole. Document 01, "Questions" 41 to 43.
+#![tactic(auto)]
+
 mod answer;
 mod asked;
 mod depth;

@@ -1,1 +1,2 @@
 // The steps that a search may leave out. It has no code.
+#![tactic(auto)]

@@ -13,7 +13,7 @@ use sheet_rows::position::Sheet;
 use sheet_rows::refusal::Refusal;
 
 // What a shop sheet may hold.
-#[derive(Drop)]
+#[derive(Clone, Copy)]
 pub struct Shop;
 
 impl Shop {
@@ -30,7 +30,7 @@ impl Shop {
 }
 
 // What an order sheet may hold.
-#[derive(Drop)]
+#[derive(Clone, Copy)]
 pub struct Order;
 
 impl Order {
@@ -40,7 +40,7 @@ impl Order {
 }
 
 // What a trace may hold.
-#[derive(Drop)]
+#[derive(Clone, Copy)]
 pub struct Trace;
 
 impl Trace {

@@ -5,7 +5,7 @@ ghost use Rattle.sheet_check.specs.PartCounts.{Small, nothing, within_rules, clo
 
 use sheet_rows::tag;
 
-#[derive(Drop)]
+#[derive(Clone, Copy)]
 pub struct PartCounts {
     pub actions: u16,
     pub methods: u16,

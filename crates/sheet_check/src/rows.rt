@@ -12,11 +12,11 @@ use sheet_rows::position::{Position, Reading, Sheet};
 use sheet_rows::refusal::Refusal;
 
 // A row by its number, from 0.
-#[derive(Drop)]
+#[derive(Clone, Copy)]
 pub struct Row(pub u16);
 
 // Where a sheet's rows stand: behind its sizes, first all tags, then all values.
-#[derive(Drop)]
+#[derive(Clone, Copy)]
 pub struct Layout {
     pub sizes: usize,
     pub rows: usize,
@@ -24,7 +24,7 @@ pub struct Layout {
 
 // What one pass over the rows comes to: no refusal, with the position at the end and what was counted, or the first question that fails,
 // at its row; then position and counts are left free.
-#[derive(Drop)]
+#[derive(Clone, Copy)]
 pub struct Scan {
     pub refusal: Refusal,
     pub position: Position,

@@ -8,7 +8,7 @@ use crate::check::{Order, Shop};
 use crate::rows::{Layout, word};
 
 // A shop sheet begins with F, K, M and N.
-#[derive(Drop)]
+#[derive(Clone, Copy)]
 pub struct ShopSizes {
     pub atoms: u16,
     pub actions: u16,
@@ -17,7 +17,7 @@ pub struct ShopSizes {
 }
 
 // An order sheet begins with F, G and N.
-#[derive(Drop)]
+#[derive(Clone, Copy)]
 pub struct OrderSizes {
     pub atoms: u16,
     pub goals: u16,
@@ -25,7 +25,7 @@ pub struct OrderSizes {
 }
 
 // A trace begins with L.
-#[derive(Drop)]
+#[derive(Clone, Copy)]
 pub struct TraceSizes {
     pub steps: u16,
 }

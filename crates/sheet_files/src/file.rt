@@ -20,14 +20,14 @@ pub const ORDER_WORDS: usize = ORDER_BYTES / 2;
 pub const TRACE_WORDS: usize = TRACE_BYTES / 2;
 
 // What came of reading a file: how many bytes stand in the room, or a failure that has been told.
-#[derive(Drop)]
+#[derive(Clone, Copy)]
 pub enum Reading {
     Bytes(usize),
     Failed,
 }
 
 // What came of one read.
-#[derive(Drop)]
+#[derive(Clone, Copy)]
 enum Piece {
     Bytes(usize),
     Interrupted,

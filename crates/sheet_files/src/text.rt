@@ -8,7 +8,7 @@ use sheet_rows::refusal::Refusal;
 use state::atoms;
 
 // The room that a text takes.
-#[derive(Drop)]
+#[derive(Clone, Copy)]
 pub struct Text;
 
 impl Text {

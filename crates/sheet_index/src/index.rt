@@ -9,7 +9,7 @@ use sheet_rows::position::Sheet;
 use sheet_rows::tag;
 
 // Rows `from` up to `to` of a sheet: an action, a method, a node.
-#[derive(Drop)]
+#[derive(Clone, Copy)]
 pub struct Span {
     pub sheet: Sheet,
     pub from: Row,
@@ -17,7 +17,7 @@ pub struct Span {
 }
 
 // Rows of a sheet by where their words stand: the first tag, the first value, and how many rows there are.
-#[derive(Drop)]
+#[derive(Clone, Copy)]
 pub struct Part {
     pub tags: usize,
     pub values: usize,
@@ -26,7 +26,7 @@ pub struct Part {
 
 // Where the parts of a sheet stand, in one table of words: first the ends, for each row the next row that begins an action, a method or
 // a node; behind room for the ends of the most rows the starts, where each action and each method begins, with the end of the last.
-#[derive(Drop)]
+#[derive(Clone, Copy)]
 pub struct Tables {}
 
 impl Tables {

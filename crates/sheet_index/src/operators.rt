@@ -16,7 +16,7 @@ use sheet_check::sizes::ShopSizes;
 use sheet_rows::position::Sheet;
 
 // A method: its first row, the row at which its nodes begin, and the row behind its last.
-#[derive(Drop)]
+#[derive(Clone, Copy)]
 pub struct MethodRows {
     pub from: Row,
     pub first: Row,
@@ -24,7 +24,7 @@ pub struct MethodRows {
 }
 
 // The nodes of a part: how many, and where the last starts.
-#[derive(Drop)]
+#[derive(Clone, Copy)]
 pub struct Nodes {
     pub count: u16,
     pub last: Row,

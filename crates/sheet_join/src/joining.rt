@@ -7,7 +7,7 @@ use sheet_check::sizes::OrderSizes;
 use sheet_rows::tag;
 
 // The sizes of the joined sheet, and which rows of the second order go into it.
-#[derive(Drop)]
+#[derive(Clone, Copy)]
 pub struct Joining {
     // F.
     pub atoms: u16,

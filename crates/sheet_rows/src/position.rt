@@ -10,7 +10,7 @@ ghost use Rattle.sheet_rows.specs.Reading.{context_of, position_of, follow_of, f
 use crate::tag;
 
 // An atom by its number.
-#[derive(Drop)]
+#[derive(Clone, Copy)]
 pub struct Atom(pub u16);
 
 impl Atom {
@@ -23,13 +23,13 @@ impl Atom {
 }
 
 // The two sheets that have rows.
-#[derive(Drop)]
+#[derive(Clone, Copy)]
 pub enum Sheet {
     Shop,
     Order,
 }
 
-#[derive(Drop)]
+#[derive(Clone, Copy)]
 pub enum Context {
     // At the start; in an order sheet, after 12 too.
     AtStart,
@@ -45,7 +45,7 @@ pub enum Context {
     InAlternative,
 }
 
-#[derive(Drop)]
+#[derive(Clone, Copy)]
 pub struct Position {
     pub context: Context,
     // The least value that goes on in the group of the last row.
@@ -55,7 +55,7 @@ pub struct Position {
 }
 
 // What a row reads as at a position: the next position, or the number of the question that it fails.
-#[derive(Drop)]
+#[derive(Clone, Copy)]
 pub enum Reading {
     Next(Position),
     Refused(u16),

@@ -4,7 +4,7 @@ ghost use Rattle.hgn.specs.Questions.{◌asks◌, placed, passed, answered};
 ghost use Rattle.sheet_rows.specs.Refusals.{refusal_of};
 
 // The number of the question and its place. 0 and 0 where every question was answered yes.
-#[derive(Drop)]
+#[derive(Clone, Copy)]
 pub struct Refusal {
     pub number: u16,
     pub place: u16,

@@ -16,7 +16,7 @@ use sheet_rows::position::Atom;
 pub const NO_ATOM: u16 = Shop::MOST_ATOMS;
 
 // For each atom, whether it is in.
-#[derive(Drop)]
+#[derive(Clone, Copy)]
 pub struct State {
     pub atoms: [bool; Shop::MOST_ATOMS as usize],
 }

@@ -16,14 +16,14 @@ use sheet_rows::position::Atom;
 use sheet_rows::tag;
 
 // An atom and its sign: the literal holds where the atom is in (true) or out (false).
-#[derive(Drop)]
+#[derive(Clone, Copy)]
 pub struct Literal {
     pub atom: Atom,
     pub sign: bool,
 }
 
 // The two tags of the rows that have a literal, one tag for each sign.
-#[derive(Drop)]
+#[derive(Clone, Copy)]
 pub struct LiteralTags {
     pub positive: u16,
     pub negative: u16,
@@ -49,7 +49,7 @@ fn row_holds(
 }
 
 // What a test of literals or of a formula tells: it holds, or else the atom of the first literal that does not.
-#[derive(Drop)]
+#[derive(Clone, Copy)]
 pub enum Test {
     Holds,
     Fails(Atom),

@@ -20,7 +20,7 @@ use sheet_rows::tag;
 
 // What effects do to wanted literals: blocked, with the first effect whose opposite is wanted; else helping, with the first that is wanted itself;
 // else neither.
-#[derive(Drop)]
+#[derive(Clone, Copy)]
 pub enum Relevance {
     Blocked(Literal),
     Helping(Literal),

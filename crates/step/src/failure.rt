@@ -10,7 +10,7 @@ use sheet_rows::refusal::Refusal;
 use state::atoms;
 
 // The refusal, 0 and 0 where every question was answered yes; and the atom, 256 where none is named.
-#[derive(Drop)]
+#[derive(Clone, Copy)]
 pub struct Failure {
     pub refusal: Refusal,
     pub atom: u16,

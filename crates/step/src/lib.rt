@@ -1,4 +1,6 @@
 // One step on checked sheets: moves and their questions. Document 01, "How a derivation runs" and "Questions".
+#![tactic(auto)]
+
 pub mod failure;
 pub mod moves;
 pub mod problem;

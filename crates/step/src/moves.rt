@@ -4,7 +4,7 @@ ghost use Rattle.step.specs.Moves.{read_of, move_read};
 
 use network::waiting::Place;
 
-#[derive(Drop)]
+#[derive(Clone, Copy)]
 pub enum Move {
     Release,
     // An action by its number, from 1.
@@ -14,21 +14,21 @@ pub enum Move {
 }
 
 // A move at the goal of a place.
-#[derive(Drop)]
+#[derive(Clone, Copy)]
 pub struct Choice {
     pub mv: Move,
     pub place: Place,
 }
 
 // A step of a trace: its number, its move and its place.
-#[derive(Drop)]
+#[derive(Clone, Copy)]
 pub struct Step {
     pub number: u16,
     pub mv: u16,
     pub place: Place,
 }
 
-#[derive(Drop)]
+#[derive(Clone, Copy)]
 pub enum Read {
     Readable(Move),
     Unreadable,

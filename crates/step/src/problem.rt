@@ -12,14 +12,14 @@ use sheet_index::operators;
 use sheet_rows::tag;
 use state::atoms;
 
-#[derive(Drop)]
+#[derive(Clone, Copy)]
 pub struct Problem {
     pub atoms: [bool; Shop::MOST_ATOMS as usize],
     pub waiting: [u16; Goals::WORDS],
 }
 
 // What a step comes to: no refusal and the next record; or what the first question that fails tells, and the record as it was.
-#[derive(Drop)]
+#[derive(Clone, Copy)]
 pub struct Stepped {
     pub failure: Failure,
     pub problem: Problem,

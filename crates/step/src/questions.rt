@@ -24,14 +24,14 @@ use state::literals::Test;
 use state::{literals, parts};
 
 // The first question that fails, or the move that may be taken.
-#[derive(Drop)]
+#[derive(Clone, Copy)]
 pub enum Decision {
     Refused(Failure),
     Allowed(Move),
 }
 
 // How many goals wait, and how many may wait after a method.
-#[derive(Drop)]
+#[derive(Clone, Copy)]
 pub struct Load {
     pub count: u16,
     pub limit: u16,

@@ -9,21 +9,21 @@ use sheet_check::rows::{Row, word};
 use sheet_check::sizes::TraceSizes;
 
 // A trace, and the row, that is the step, which its reading has reached.
-#[derive(Drop)]
+#[derive(Clone, Copy)]
 pub struct Reader<'a> {
     pub trace: &'a [u16],
     pub row: Row,
 }
 
 // What stands at a row of a trace: a step's move and place, or the trace's end.
-#[derive(Drop)]
+#[derive(Clone, Copy)]
 pub enum TraceRow {
     Step(u16, Place),
     End,
 }
 
 // A row of a trace that was read, and the row behind it.
-#[derive(Drop)]
+#[derive(Clone, Copy)]
 pub struct Onward {
     pub step: TraceRow,
     pub row: Row,

@@ -52,6 +52,7 @@ front_below g (p ∷ w) q (h, u) (Memᴰ.head e) = subst (Below g) (sym e) (here
     here_below (of_order_law s o n h) = record { bound = λ o'. h.afters }
     here_below (brought s o m e') = record { bound = λ o'. absurd (order≢step (sym o' ∙ o)) }
 front_below g (p ∷ w) q (h, u) (Memᴰ.tail m) = front_below g w q u m
+front_below g [] q _ x3 = elim x3 [ ]
 
 -- No goal of the first part comes after one of the second.
 front_apart : (g : ℕ) (w v : List Waiting) → Front g w → Back g v → (q p : Waiting) → Memᴰ q w → Memᴰ p v → comes_after q p ≡ false

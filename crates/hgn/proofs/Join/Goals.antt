@@ -41,15 +41,17 @@ goal_at_law : (i : ℕ) {k : ℕ} {q : Waiting} (ns : List Node) → At (enter o
 unfolding enter
 goal_at_law i (n ∷ ns) here = (refl, sym (add-zero i), (n, here, refl), refl)
 goal_at_law i (n ∷ ns) (there h) = let r = goal_at_law (suc i) ns h in (r.0, omega arith, (r.2.0, there r.2.1, r.2.2), r.3)
+goal_at_law i {k = k} {q = q} [] x' = elim x' [ ]
 
 -- A raised node comes after every node below `g`.
-after_first : (g : ℕ) {k : ℕ} {n : Node} (ns ms : List Node) → At (ns ++ map (raised g) ms) k n → length ns ≤ k
+after_first : (g : ℕ) {k : ℕ} (ns ms : List Node) {n : Node} → At (ns ++ map (raised g) ms) k n → length ns ≤ k
     → (i : ℕ) → i < g → Memᴰ i n.after
 unfolding raised
 after_first g [] (m ∷ ms) here h i l = Memᴰ.append_left _ (lt_range g i l)
 after_first g [] (m ∷ ms) (there a) h i l = after_first g [] ms a (omega arith) i l
 after_first g (n ∷ ns) ms here h i l = absurd (omega arith)
 after_first g (n ∷ ns) ms (there a) h i l = after_first g ns ms a (omega arith) i l
+after_first g [] [] a h i l = elim a [ ]
 
 pub first_before_second : FirstBeforeSecond
 unfolding goals_of join

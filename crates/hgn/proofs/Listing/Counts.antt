@@ -44,6 +44,7 @@ module _ {A : Type 0} (test : A → Bool) where
       go false t = t
       go true t = absurd (omega (arith, count_cons y ys, e, ap {B = ℕ} (λ (b : Bool). cond b 1 0) t))
   none_counted (y ∷ ys) e x (Memᴰ.tail m) = none_counted ys (omega (arith, count_cons y ys)) x m
+  none_counted [] e x x4 = elim x4 [ ]
 
   pub nothing_left : (xs : List A) → count xs ≡ 0 → filter test xs ≡ []
   nothing_left xs e = go (filter test xs) e
@@ -98,14 +99,14 @@ module _ (test : Source → Bool) where
     brought n [] = 0
     brought n (x ∷ xs) = brought_by n (move_of r.domain x.move) + brought (suc n) xs
 
-    step_counted : {n : ℕ} {P P' : Problem} {p : ℕ} {mv : Move} {deed : Deed} → p < length P.waiting → Moved r n P p mv deed P'
+    step_counted : {n p : ℕ} {P P' : Problem} {mv : Move} {deed : Deed} → p < length P.waiting → Moved r n P p mv deed P'
         → goals_from P.waiting + brought_by n mv ≡ lines_from (lines_at n deed) + goals_from P'.waiting
     unfolding brought_by lines_at decomposed filter
-    step_counted {n} {P} {p = p} h (by_release a) =
+    step_counted {n} {p} {P} h (by_release a) =
         let line = line_of n (leaving P.waiting (goal_at P.waiting p)) in
         omega (arith, count_released (λ q. test q.source) P.waiting p h, count_cons (λ (l : Line). test l.source) line [])
     step_counted h (by_action a b) = omega arith
-    step_counted {n} {P} {p = p} h (by_method {m = m} a b c) =
+    step_counted {n} {p} {P} h (by_method {m = m} a b c) =
         let nodes = network_of (method_at r.domain m) in
         let new = enter (used n m) (some (goal_at P.waiting p).name) 0 nodes in
         omega (arith, count_inserted (λ q. test q.source) P.waiting new p, entered_from (used n m) (some (goal_at P.waiting p).name) 0 nodes)
@@ -163,3 +164,4 @@ module _ (test : Source → Bool) where
         (λ j k z b d. later (λ z. test (used z k) ≡ false) n j (others (suc j) k z (there b) (λ q. d (omega (arith, q))))) in
         let now = none_by n (move_of r.domain y.move) (λ k q. subst (λ (z : ℕ). test (used z k) ≡ false) (add-zero n) (others 0 k y here (λ z. omega (arith, z)))) in
         omega (arith, now, rest)
+    one_brings [] n i m x x6 e t others = elim x6 [ ]

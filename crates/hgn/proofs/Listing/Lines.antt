@@ -62,12 +62,17 @@ run_rises r (x ∷ xs) n P deeds last e =
     go (by_method a b c) ls h = rising_from n ls h
 
 rising_least : (n : ℕ) {ls : List Line} {j : ℕ} {b : Line} → Rising n ls → At ls j b → n ≤ b.released
-rising_least n (h, u) here = h
+rising_least n {ls = []} h a = elim a [ ]
+rising_least n {ls = l ∷ ls} (h, u) here = h
 rising_least n {ls = l ∷ ls} (h, u) (there k) = let z = rising_least (suc l.released) u k in omega arith
 
 rises : (n : ℕ) {ls : List Line} (i j : ℕ) (a b : Line) → Rising n ls → At ls i a → At ls j b → i < j → a.released < b.released
-rises n zero (suc j) a b (h, u) here (there k) l = rising_least (suc a.released) u k
+rises n {ls = l ∷ ls} zero (suc j) a b (h, u) here (there k) _ = rising_least (suc a.released) u k
 rises n {ls = l ∷ ls} (suc i) (suc j) a b (h, u) (there p) (there q) k = rises (suc l.released) i j a b u p q (le_of_suc-le-suc k)
+rises n {ls = ls} zero zero a b _ _ _ l = elim l [ ]
+rises n {ls = []} (suc i) j a b _ x10 _ k = elim x10 [ ]
+rises n {ls = l ∷ ls} (suc i) zero a b _ _ _ k = elim k [ ]
+rises n {ls = []} zero (suc j) a b _ x10 _ k = elim x10 [ ]
 
 -- A step that leaves a goal waiting leaves as many goals above it.
 kept_above : (r : Rules) (n : ℕ) (P : Problem) (x : Step) (deed : Deed) (P' : Problem) → Tree n P.waiting → stepped r n P x ≡ taken deed P'
@@ -167,6 +172,7 @@ goals_same e = cc
 
 only_one : {a b : Leaving} → Memᴰ a (b ∷ []) → a ≡ b
 only_one (Memᴰ.head e) = e
+only_one {a = a} {b = b} (Memᴰ.tail x4) = elim x4 [ ]
 
 tail_at : {d : Deed} {ds : List Deed} {i : ℕ} {c : Deed} → At (d ∷ ds) (suc i) c → At ds i c
 tail_at (there a) = a

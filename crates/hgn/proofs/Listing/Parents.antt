@@ -30,8 +30,9 @@ reached_within {r} o h (next {xs = xs} {P = P} {P' = P'} {deed = deed} x i e) = 
 
 -- A goal with those behind it.
 rooted_at : {w : List Waiting} {i : ℕ} {q : Waiting} → Rooted Any w → At w i q → RootedGoal Any q (drop (suc i) w)
-rooted_at (f, u) here = f
-rooted_at (f, u) (there a) = rooted_at u a
+rooted_at {w = []} h a = elim a [ ]
+rooted_at {w = q ∷ w} (f, u) here = f
+rooted_at {w = q ∷ w} (f, u) (there a) = rooted_at u a
 
 at_drop : (w : List Waiting) (i : ℕ) {j : ℕ} {p : Waiting} → At (drop i w) j p → At w (i + j) p
 at_drop w zero {j} {p} a = subst (λ (k : ℕ). At w k p) (sym (zero-add j)) a

@@ -48,7 +48,7 @@ module _ (shop sheet trace : List ℕ) where
     above = refl;
   }
 
-  later_true : (l : Line) (x : Step) {mv : Move} {deed : Deed} {P P' : Problem} {n : ℕ} (ls : List Line) → move_of r.domain x.move ≡ mv → Moved r n P x.place mv deed P'
+  later_true : (l : Line) (x : Step) {mv : Move} {deed : Deed} {n : ℕ} {P P' : Problem} (ls : List Line) → move_of r.domain x.move ≡ mv → Moved r n P x.place mv deed P'
       → (move_of r.domain x.move ≡ release → LineTrue shop sheet trace (line_of n (leaving P.waiting (goal_at P.waiting x.place))))
       → (Memᴰ l ls → LineTrue shop sheet trace l) → Memᴰ l (lines_at n deed ++ ls) → LineTrue shop sheet trace l
   unfolding lines_at
@@ -93,6 +93,7 @@ module _ (shop sheet trace : List ℕ) where
       let f = resumes (stepped r) n P y xs deeds last e in
       let z = run_each xs (suc n) f.left f.rest last f.goes_on i x a h in
       rw f.whole (z.0, behind (lines_at n f.deed) _ z.1, omega (arith, z.2))
+  run_each [] n P deeds last e i x x5 h = elim x5 [ ]
 
   module _ (deeds : List Deed) (last : State) (runs : run (rules_of shop) 0 (problem_of (order sheet)) (steps_of trace) ≡ accepted deeds last) where
     pub lines_true : (l : Line) → Memᴰ l (lines_of 0 deeds) → LineTrue shop sheet trace l

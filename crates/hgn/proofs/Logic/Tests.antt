@@ -86,11 +86,13 @@ module _ {A : Type 0} (test : A → Bool) where
   unfolding any
   true_any {x} (y ∷ xs) (Memᴰ.head p) e = true_or_left (test y) (any test xs) (ap test (sym p) ∙ e)
   true_any {x} (y ∷ xs) (Memᴰ.tail m) e = true_or_right (test y) (any test xs) (true_any {x = x} xs m e)
+  true_any {x = x} [] x3 e = elim x3 [ ]
 
   pub all_true : {x : A} (xs : List A) → all test xs ≡ true → Memᴰ x xs → test x ≡ true
   unfolding all
   all_true (y ∷ xs) e (Memᴰ.head p) = ap test p ∙ (and_true (test y) (all test xs) e).0
   all_true (y ∷ xs) e (Memᴰ.tail m) = all_true xs (and_true (test y) (all test xs) e).1 m
+  all_true [] e x3 = elim x3 [ ]
 
   pub true_all : (xs : List A) → ((x : A) → Memᴰ x xs → test x ≡ true) → all test xs ≡ true
   unfolding all
@@ -201,6 +203,7 @@ flatten_literal f l = (to f, λ r. from f r.0 r.1 r.2)
     from : (g : Formula) (c : List Literal) → Memᴰ c g → Memᴰ l c → Memᴰ l (flatten g)
     from (d ∷ g) c (Memᴰ.head p) h = Memᴰ.append_left (flatten g) (subst (λ (e : List Literal). Memᴰ l e) p h)
     from (d ∷ g) c (Memᴰ.tail m) h = Memᴰ.append_right d (from g c m h)
+    from [] c x'' h = elim x'' [ ]
 
 pub relevant_iff : (effects : List Literal) (f : Formula) → (relevant effects f ≡ true) ↔ Relevant effects f
 unfolding relevant

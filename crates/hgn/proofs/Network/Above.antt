@@ -80,6 +80,7 @@ module _ (Own : Waiting → Type 0) where
   pub member_parent : (w : List Waiting) → Rooted Own w → (q : Waiting) → Memᴰ q w → ParentIn w q.parent
   member_parent (p ∷ w) (f, u) q (Memᴰ.head e) = wider (subst (λ (x : Waiting). ParentIn w x.parent) (sym e) (parent_of f))
   member_parent (p ∷ w) (f, u) q (Memᴰ.tail m) = wider (member_parent w u q m)
+  member_parent [] _ q x3 = elim x3 [ ]
 
   pub above_in_front : (w v : List Waiting) → Rooted Own w → (q : Waiting) → Memᴰ q w → goals_above (w ++ v) q ≡ goals_above w q
   above_in_front w v u q m = above_known w v u q.parent (member_parent w u q m)
@@ -92,12 +93,14 @@ module _ (Own : Waiting → Type 0) where
       above_later p.name q w (d.0 p (at_mem a))
       ∙ above_at w j p d.1 u a
       ∙ ap suc (sym (above_behind q w d.0 p.parent (member_parent w u p (at_mem a))))
+  above_at [] j p' d _ x4 = elim x4 [ ]
 
   -- The parent and those above it stand behind the goal.
   pub above_from_law : (w : List Waiting) (i : ℕ) (q : Waiting) → Distinct w → Rooted Own w → At w i q → above_from (drop (suc i) w) q.parent ≡ goals_above w q
   above_from_law (q ∷ w) zero q' d (f, u) here = sym (above_behind q w d.0 q.parent (parent_of f))
   above_from_law (p ∷ w) (suc i) q d (f, u) (there a) =
       above_from_law w i q d.1 u a ∙ sym (above_behind p w d.0 q.parent (member_parent w u q (at_mem a)))
+  above_from_law [] i q' d _ x4 = elim x4 [ ]
 
   -- When a goal leaves, as many stand above the others as before.
   pub above_released : (w : List Waiting) (i : ℕ) (t : Waiting) → Distinct w → At w i t → Rooted Own (released w i) → (o : Option Name)
@@ -108,6 +111,7 @@ module _ (Own : Waiting → Type 0) where
       sym
       (same_above q w (released w i) o h (sym (above_released w i t d.1 a u q.parent (parent_of f)))
       (λ r m. sym (above_released w i t d.1 a u (some r.name) (parent_is m refl))))
+  above_released [] i t' d x4 u o h = elim x4 [ ]
 
   -- And when goals enter that have none of the names.
   pub above_inserted : (w new : List Waiting) (p : ℕ) → ((q e : Waiting) → Memᴰ q w → Memᴰ e new → e.name ≢ q.name) → Rooted Own w → (o : Option Name)

@@ -44,9 +44,11 @@ entered_formula o parent i (n ∷ ns) t m =
 -- The rule for a method's last node leaves the formulas as they are.
 method_formula : (i : ℕ) (ns : List Node) {g : Formula} → FormulaOf (last_after_all i ns) g → FormulaOf ns g
 unfolding last_after_all
+method_formula i [] h = h
 method_formula i (n ∷ []) (k, m, here, e) = (0, n, here, e)
 method_formula i (n ∷ o ∷ ns) (k, m, here, e) = (0, n, here, e)
 method_formula i (n ∷ o ∷ ns) (k, m, there a, e) = also (method_formula (suc i) (o ∷ ns) (_, m, a, e))
+method_formula i (n ∷ []) {g = g} (_, m, there a, e) = elim a [ ]
 
 keeps : {F : ℕ} {ns : List Node} → NetworkRules F ns → {g : Formula} → FormulaOf ns g → FormulaRules F g
 keeps {F} h {g} (k, n, a, e) =

@@ -57,6 +57,7 @@ same_goal (q ∷ v) h (Memᴰ.head d) (Memᴰ.head e) s = d ∙ sym e
 same_goal {a} {t} (q ∷ v) h (Memᴰ.head d) (Memᴰ.tail n) s = absurd (h.0 t n (sym s ∙ ap (λ (x : Waiting). x.name) d))
 same_goal {a} {t} (q ∷ v) h (Memᴰ.tail m) (Memᴰ.head e) s = absurd (h.0 a m (s ∙ ap (λ (x : Waiting). x.name) e))
 same_goal (q ∷ v) h (Memᴰ.tail m) (Memᴰ.tail n) s = same_goal v h.1 m n s
+same_goal {a = a} {t = t} [] h x4 _ s = elim x4 [ ]
 
 -- A network's nodes as they enter.
 
@@ -156,11 +157,11 @@ strangers {n} {at = at} i nodes h q e k j = record {
     old s = lt_irrefl n ((h.fresh q k).by_name n s)
 
     not_after : ¬ ComesAfter e q
-    not_after (ComesAfter.by_Row s l) = old (s ∙ r.its_origin)
+    not_after (ComesAfter.by_row s l) = old (s ∙ r.its_origin)
     not_after (ComesAfter.by_method s) = lt_irrefl n ((h.fresh q k).by_parent e.name s n r.its_origin)
 
     before_parent : ComesAfter q e → q.name ≡ at
-    before_parent (ComesAfter.by_Row s l) = absurd (old (sym s ∙ r.its_origin))
+    before_parent (ComesAfter.by_row s l) = absurd (old (sym s ∙ r.its_origin))
     before_parent (ComesAfter.by_method s) = some-injective _ _ (sym s ∙ r.its_parent)
 
 -- Nor is the goal they enter at one of them.

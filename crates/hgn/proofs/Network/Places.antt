@@ -24,6 +24,7 @@ listed o parent i (n ∷ ns) zero _ here = subst (λ (j : ℕ). At (enter o pare
 listed o parent i (m ∷ ns) (suc k) n (there h) =
     let e : suc i + k ≡ i + suc k = omega arith in
     there (subst (λ (j : ℕ). At (enter o parent (suc i) ns) k (entered o parent n j)) e (listed o parent (suc i) ns k n h))
+listed o parent i [] k n x' = elim x' [ ]
 
 pub at_behind : {A : Type 0} (xs : List A) {ys : List A} {i : ℕ} {a : A} → At ys i a → At (xs ++ ys) (length xs + i) a
 at_behind [] {ys} {i} {a} h = subst (λ (k : ℕ). At ys k a) (sym (zero-add i)) h
@@ -33,16 +34,22 @@ released_before : (w : List Waiting) (p i : ℕ) (a : Waiting) → i < p → At 
 unfolding released
 released_before (x ∷ w) (suc p) zero _ l here = here
 released_before (x ∷ w) (suc p) (suc i) a l (there h) = there (released_before w p i a (le_of_suc-le-suc l) h)
+released_before [] p i a l x'' = elim x'' [ ]
+released_before (x ∷ w) zero i a l _ = elim l [ ]
 
 released_behind : (w : List Waiting) (p i : ℕ) (a : Waiting) → p ≤ i → At w (suc i) a → At (released w p) i a
 unfolding released
 released_behind (x ∷ w) zero i a l (there h) = h
 released_behind (x ∷ w) (suc p) (suc i) a l (there h) = there (released_behind w p i a (le_of_suc-le-suc l) h)
+released_behind [] p i a l x'' = elim x'' [ ]
+released_behind (x ∷ w) (suc p) zero a l _ = elim l [ ]
 
 -- What stands before, between and behind where `new` enters.
 before : (w new : List Waiting) (p i : ℕ) (a : Waiting) → i < p → At w i a → At (take p w ++ (new ++ drop p w)) i a
 before (x ∷ w) new (suc p) zero _ l here = here
 before (x ∷ w) new (suc p) (suc i) a l (there h) = there (before w new p i a (le_of_suc-le-suc l) h)
+before [] new p i a l x'' = elim x'' [ ]
+before (x ∷ w) new zero i a l _ = elim l [ ]
 
 pub at_front : {A : Type 0} {xs : List A} (ys : List A) {i : ℕ} {a : A} → At xs i a → At (xs ++ ys) i a
 at_front ys here = here
@@ -52,11 +59,14 @@ between : (w new : List Waiting) (p k : ℕ) (t a : Waiting) → At w p t → At
 between w new zero k t a h b = subst (λ (j : ℕ). At (new ++ w) j a) (sym (zero-add k)) (at_front w b)
 between (x ∷ w) new (suc p) k t a (there h) b =
     subst (λ (j : ℕ). At (x ∷ (take p w ++ (new ++ drop p w))) j a) (omega arith) (there (between w new p k t a h b))
+between [] new (suc p) k t a h b = elim h [ ]
 
 behind : (w new : List Waiting) (p i : ℕ) (a : Waiting) → p ≤ i → At w i a → At (take p w ++ (new ++ drop p w)) (length new + i) a
 behind w new zero i a l h = at_behind new h
 behind (x ∷ w) new (suc p) (suc i) a l (there h) =
     subst (λ (k : ℕ). At (x ∷ (take p w ++ (new ++ drop p w))) k a) (omega arith) (there (behind w new p i a (le_of_suc-le-suc l) h))
+behind [] new (suc p) i a l h = elim h [ ]
+behind (x ∷ w) new (suc p) zero a l h = elim l [ ]
 
 -- The node at place `k` of a network, in the list under its own number.
 at_first : (o : Source) (parent : Option Name) (nodes : List Node) (k : ℕ) (n : Node) → At nodes k n

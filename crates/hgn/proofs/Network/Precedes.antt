@@ -46,10 +46,13 @@ never_round (q ∷ v) h t c = never_round v h.1 t (restrict q (λ x m. mathlib.C
 
 -- No goal stands at two places.
 one_place : {w : List Waiting} (i j : ℕ) (t : Waiting) → Distinct w → At w i t → At w j t → i ≡ j
-one_place zero zero t h here here = refl
-one_place zero (suc j) t h here (there b) = absurd (h.0 t (at_mem b) refl)
-one_place (suc i) zero t h (there a) here = absurd (h.0 t (at_mem a) refl)
-one_place (suc i) (suc j) t h (there a) (there b) = ap suc (one_place i j t h.1 a b)
+one_place i j t h a b = go i j t t h a b refl
+  where
+    go : {w : List Waiting} (i j : ℕ) (t s : Waiting) → Distinct w → At w i t → At w j s → t ≡ s → i ≡ j
+    go zero zero t s h here here e = refl
+    go zero (suc j) t s h here (there b) e = absurd (h.0 s (at_mem b) (ap (λ (q : Waiting). q.name) (sym e)))
+    go (suc i) zero t s h (there a) here e = absurd (h.0 t (at_mem a) (ap (λ (q : Waiting). q.name) e))
+    go (suc i) (suc j) t s h (there a) (there b) e = ap suc (go i j t s h.1 a b e)
 
 -- The nodes that enter at the goal of place `p` carry its name.
 decomposed_is : (n u : ℕ) {w : List Waiting} {p : ℕ} {t : Waiting} (nodes : List Node) → At w p t
@@ -97,7 +100,7 @@ module _ {n : ℕ} {w : List Waiting} (h : Named n w) where
       r x i = entered (network_of m) i
 
       both : New a → New b → ComesAfter b a → Memᴰ a.name.number b.after
-      both i j (ComesAfter.by_Row o l) = l
+      both i j (ComesAfter.by_row o l) = l
       both i j (ComesAfter.by_method o) = absurd (parent_outside h (at_mem k) b.name (sym (r a i).its_parent ∙ o) (r b j).its_origin)
 
       to : Memᴰ a w ⊎ New a → Memᴰ b w ⊎ New b → ComesAfter b a → Pair w a b ⊎ ((New a × New b × Memᴰ a.name.number b.after) ⊎ (New a × (b ≡ t)))
@@ -108,7 +111,7 @@ module _ {n : ℕ} {w : List Waiting} (h : Named n w) where
 
       from : Pair w a b ⊎ ((New a × New b × Memᴰ a.name.number b.after) ⊎ (New a × (b ≡ t))) → Pair (decomposed w p (used n u) (network_of m)) a b
       from (inl q) = ((nodes a).1 (inl q.0), (nodes b).1 (inl q.1), q.2)
-      from (inr (inl q)) = ((nodes a).1 (inr q.0), (nodes b).1 (inr q.1), ComesAfter.by_Row ((r a q.0).its_origin ∙ sym (r b q.1).its_origin) q.2)
+      from (inr (inl q)) = ((nodes a).1 (inr q.0), (nodes b).1 (inr q.1), ComesAfter.by_row ((r a q.0).its_origin ∙ sym (r b q.1).its_origin) q.2)
       from (inr (inr q)) = (
         (nodes a).1 (inr q.0),
         (nodes b).1 (inl (mathlib.Core.List.Memᴰ.cast q.1 (at_mem k))),
@@ -129,7 +132,7 @@ module _ {n : ℕ} {w : List Waiting} (h : Named n w) where
       Union a b = Precedes w a b ⊎ (Precedes (entering n u t m) a b ⊎ (Memᴰ a (entering n u t m) × (b ≡ t)))
 
       both : {a b : Waiting} → Memᴰ a (entering n u t m) → Memᴰ b (entering n u t m) → Memᴰ a.name.number b.after → ComesAfter b a
-      both i j l = ComesAfter.by_Row ((entered (network_of m) i).its_origin ∙ sym (entered (network_of m) j).its_origin) l
+      both i j l = ComesAfter.by_row ((entered (network_of m) i).its_origin ∙ sym (entered (network_of m) j).its_origin) l
 
       pair : {a b : Waiting} → Pair (decomposed w p (used n u) (network_of m)) a b → Union a b
       pair {a} {b} q = ⊎_elim (λ o. inl (listed o.0 o.1 o.2)) (⊎_elim (λ o. inr (inl (listed o.0 o.1 (both o.0 o.1 o.2)))) (λ o. inr (inr o))) ((method_pairs p t a b u m k).0 q)

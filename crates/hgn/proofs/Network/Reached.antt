@@ -45,7 +45,7 @@ entered_ordered o {parent} i (n ∷ ns) h outside = (after_none, entered_ordered
     q = record { name = record { origin = origin_of o; number = i }; source = o; parent = parent; after = n.after; formula = n.formula }
 
     after_none : (p : Waiting) → Memᴰ p (q ∷ enter o parent (suc i) ns) → ¬ ComesAfter q p
-    after_none p m (ComesAfter.by_Row e k) = let r = entered {o = o} {i = i} (n ∷ ns) m in let a = r.its_number in let b = h.0 _ k in omega arith
+    after_none p m (ComesAfter.by_row e k) = let r = entered {o = o} {i = i} (n ∷ ns) m in let a = r.its_number in let b = h.0 _ k in omega arith
     after_none p m (ComesAfter.by_method e) = let r = entered {o = o} {i = i} (n ∷ ns) m in outside q.name (sym r.its_parent ∙ e) refl
 
 -- The order's goals at the start.

@@ -41,6 +41,7 @@ rooted_released Own (q ∷ w) (suc p) t (there a) h (f, u) = (keeps f, rooted_re
         (λ z. absurd (h q (Memᴰ.head refl) (e ∙ ap {B = Option Name} (λ (y : Waiting). some y.name) z)))
         (λ k. brought s o k e)
         (stays a m)
+rooted_released Own [] p t a h _ = elim a [ ]
 
 -- And when goals enter before their parent.
 rooted_entered : (Own : Waiting → Type 0) (n k i : ℕ) (t : Waiting) (nodes : List Node) (w : List Waiting) → Memᴰ t w → Rooted Own w
@@ -58,6 +59,7 @@ rooted_inserted Own n k t nodes (q ∷ w) (suc p) (there a) (f, u) = (keeps f, r
     keeps : RootedGoal Own q w → RootedGoal Own q (take p w ++ (enter (used n k) (some t.name) 0 nodes ++ drop p w))
     keeps (of_order_law s o e b) = of_order_law s o e b
     keeps (brought s o m e) = brought s o (inserted_old (enter (used n k) (some t.name) 0 nodes) a m) e
+rooted_inserted Own n k t nodes [] (suc p) a u = elim a [ ]
 
 -- And through every step that is taken.
 pub rooted_step : (Own : Waiting → Type 0) (r : Rules) (n : ℕ) (P : Problem) (x : Step) (deed : Deed) (P' : Problem)

@@ -15,7 +15,7 @@ use Rattle.hgn.specs.Definition1.{Stands, Derivation, base, satisfaction, applic
 use Rattle.hgn.specs.Readings.{AcceptedIsDerivation}
 use Rattle.hgn.proofs.Logic.Tests.{at_mem, at_get_or, at_lt, at_of_lt, all_hold_iff, formula_holds_iff, free_iff_unconstrained, strict_decided}
 use Rattle.hgn.proofs.Run.Steps.{Moved, by_release, by_action, by_method, took, takes}
-use Rattle.hgn.proofs.Run.Moves.{Reads, as_release, as_action, as_method, reads, reads_action, reads_method}
+use Rattle.hgn.proofs.Run.Moves.{Reads, as_release, as_action, as_method, as_unknown, reads, reads_action, reads_method}
 use Rattle.hgn.proofs.Network.Waiting.{length_released}
 use Rattle.hgn.proofs.Run.Runs.{resumes, resumed_accepts, ended_nothing, ended_empty}
 
@@ -140,6 +140,7 @@ module _ (r : Rules) (dec : Decided r) where
   derives_by n P {p} l h e (as_method {k} c) (by_method f g b) deeds i =
       decomposition (stands P l p h e) (at_of_lt r.domain.methods k no_method c)
       ((all_hold_iff P.state _).0 f) ((dec.use_iff _ _).0 g) i
+  derives_by n P l h e as_unknown m deeds i = elim m [ ]
 
   -- An accepted run from a list within the limit is a derivation of its plan and its last state.
   pub run_derives : (n : ℕ) (P : Problem) (xs : List Step) (deeds : List Deed) (last : State) → length P.waiting ≤ r.limit

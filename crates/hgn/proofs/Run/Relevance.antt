@@ -44,6 +44,7 @@ same_atom top low (x ∷ c) h {k} {l} (Memᴰ.head p) (Memᴰ.tail m) e =
 same_atom top low (x ∷ c) h {k} {l} (Memᴰ.tail m) (Memᴰ.head p) e =
     absurd (omega (arith, ap (λ (y : Literal). y.atom) p, rise_least top (suc x.atom) (atoms c) h.2 k.atom (Memᴰ.map (λ (y : Literal). y.atom) m)))
 same_atom top low (x ∷ c) h (Memᴰ.tail m) (Memᴰ.tail n) e = same_atom top (suc x.atom) c h.2 m n e
+same_atom top low [] h {k = k} {l = l} x4 _ e = elim x4 [ ]
 
 module _ (F : ℕ) (c : List Literal) (few : F ≤ most_atoms) (rules : ConjunctRules F c) where
   atom_few : (l : Literal) → Memᴰ l c → l.atom < most_atoms

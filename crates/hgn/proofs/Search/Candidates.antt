@@ -15,7 +15,7 @@ use Rattle.hgn.specs.Trace.{step}
 use Rattle.hgn.specs.Search.{moves_of, steps_at, candidates}
 use Rattle.hgn.proofs.Logic.Ranges.{range_within, within_range}
 use Rattle.hgn.proofs.Run.Steps.{Moved, by_release, by_action, by_method, took}
-use Rattle.hgn.proofs.Run.Moves.{Reads, as_release, as_action, as_method, reads}
+use Rattle.hgn.proofs.Run.Moves.{Reads, as_release, as_action, as_method, as_unknown, reads}
 
 -- No value is none.
 pub no_value : {B : Type 0} (o : Option B) → ((y : B) → o ≡ some y → ⊥) → o ≡ none
@@ -109,6 +109,7 @@ module _ {A : Type 0} (R : A → A → Type 0) where
     found_rising (t ∷ xs) r y x (Memᴰ.head p) e h = first_here f t xs y (ap f (sym p) ∙ e)
     found_rising (t ∷ xs) r y x (Memᴰ.tail m) e h =
         first_later f t xs (h t (Memᴰ.head refl) (r.0 x m)) ∙ found_rising xs r.1 y x m e (λ z n b. h z (Memᴰ.tail n) b)
+    found_rising [] r y x x6 e h = elim x6 [ ]
 
 -- The numbers from `i` on.
 
@@ -166,6 +167,7 @@ module _ (d : Domain) where
   unfolding flatten
   within_places (q ∷ ps) p z (Memᴰ.head e) m = Memᴰ.append_left _ (subst (λ (t : ℕ). Memᴰ z (steps_at d t)) e m)
   within_places (q ∷ ps) p z (Memᴰ.tail h) m = Memᴰ.append_right (steps_at d q) (within_places ps p z h m)
+  within_places [] p z x'' m = elim x'' [ ]
 
   pub candidates_rising : length d.actions ≤ 255 → (w : List Waiting) → Rising Before (candidates d w)
   unfolding candidates flatten
@@ -193,6 +195,7 @@ module _ (r : Rules) where
       Memᴰ.tail
       (Memᴰ.append_right (range 1 (length r.domain.actions))
       (within_range first_method (length r.domain.methods) (first_method + k) (omega arith) (omega arith)))
+  move_known as_unknown x4 = elim x4 [ ]
 
   -- A step that can be taken is tried.
   pub is_candidate : (n : ℕ) (P : Problem) (x : Step) (deed : Deed) (P' : Problem)
