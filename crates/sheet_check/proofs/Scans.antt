@@ -19,7 +19,6 @@ use Rattle.sheet_check.specs.PartCounts.{nothing, counted, counted_rows, Within}
 use Rattle.sheet_check.specs.Scanned.{questions_of}
 use Rattle.sheet_rows.specs.declared.position.Sheet.{Sheet}
 use Rattle.sheet_rows.specs.declared.position.Sheet.TheVariants.{Shop, Order}
-use Rattle.sheet_rows.specs.declared.position.Context.{Context}
 use Rattle.sheet_rows.specs.declared.position.Position.{Position}
 use Rattle.sheet_check.specs.declared.part_counts.PartCounts.{PartCounts}
 use Rattle.sheet_check.proofs.Counts.{within_nothing, within_counted}

@@ -1,0 +1,7 @@
+-- The room is as long behind the first write as it was. Assumes nothing.
+use native.Mathlib.Omega.{arith}
+use lib.ListN.{length-set}
+use Rattle.sheet_check.proofs.rows.Layout.put.Goals as goal
+
+pub bounds-room-behind : goal.bounds-room-behind
+bounds-room-behind c = simp length-set (omega arith)

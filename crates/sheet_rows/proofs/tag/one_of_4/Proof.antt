@@ -1,8 +1,0 @@
--- The tag is the first, or it is looked for among the rest. Assumes nothing.
-use borrow.Author.Rules.{rules}
-use Rattle.sheet_rows.proofs.Laws.{elements}
-use Rattle.sheet_rows.proofs.tag.one_of_4.Statement.{statement}
-use Rattle.sheet_rows.proofs.tag.one_of_4.Tie as tie
-
-pub one_of_4_spec : {M : Type 1} → statement M
-one_of_4_spec = tie.close (tie.spec (λ c. search elements) (λ c κs. search rules) (λ c. search elements))
