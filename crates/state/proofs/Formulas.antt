@@ -1,16 +1,22 @@
--- The formula of a node's rows, one row at a time: does it hold, and which atom is not as wanted? Assumes nothing.
+-- The formula of a node's rows, one row at a time: does it hold, which atom is not as wanted, are effects relevant to it? Assumes nothing.
 use Prim.Native.Nat.{ℕ}
-use mathlib.Core.Path.{◌≡◌, refl, ap}
-use mathlib.Core.Bool.{Bool, true, false, cond, ◌&&◌, ◌||◌}
-use mathlib.Core.List.{List, [], ◌∷◌, head_d}
-use borrow.Author.Tests.{ne_eqb}
+use mathlib.Core.Path.{◌≡◌, refl, sym, ap, ◌∙◌}
+use mathlib.Core.Bool.{Bool, true, false, cond, not, ◌&&◌, ◌||◌, and-false, or-true}
+use mathlib.Core.List.{List, [], ◌∷◌, ◌++◌, head_d, map, flatten, append_assoc}
+use borrow.Author.Tests.{eqb-true, ne_eqb}
 use Rattle.hgn.specs.Lists.{any, all, take_until, split_at_each}
 use Rattle.hgn.specs.Rows.{Row, row, has}
 use Rattle.hgn.specs.Tag.{alternative, wanted_true, wanted_false}
 use Rattle.hgn.specs.Meaning.{Literal, literals, node_of}
-use Rattle.hgn.specs.State.{State, no_atom, all_hold, formula_holds, unmet, unmet_goal}
-use Rattle.state.proofs.ByRow.{all_first, unmet_first}
+use Rattle.hgn.specs.State.{State, no_atom, all_hold, formula_holds, unmet, unmet_goal, opposite, contains, relevant}
+use Rattle.hgn.proofs.Logic.Tests.{any_append}
+use Rattle.state.specs.Effects.{met_of}
+use Rattle.state.specs.declared.literals.Met.{Met}
+use Rattle.state.specs.declared.literals.Met.TheVariants.{Opposite, Same, Neither}
+use Rattle.state.proofs.ByRow.{first_row_law, all_first, unmet_first}
 use Rattle.state.proofs.Tests.{goal_told}
+use Rattle.state.proofs.Meetings as Meetings
+use Rattle.state.proofs.Meetings.{opposed, untouched}
 
 wanted : List Row → List Literal
 wanted rs = literals wanted_true wanted_false rs
@@ -85,3 +91,75 @@ module _ (s : State) where
 pub record Remembered (s : State) (rows : List Row) (so_far failed : Bool) (a : ℕ) (rest : List Row) : Type 0 where
   pub told : goal_told s (node_of rows).formula ≡ told_from s so_far failed a rest
   pub unnamed : failed ≡ false → a ≡ no_atom
+
+-- The literals of the formula in these rows: from the first 8 on, or all where an alternative is at hand.
+wanted_from : Bool → List Row → List Literal
+wanted_from inside rs = cond inside (wanted rs) (flatten (node_of rs).formula)
+
+-- Those of the alternative at hand and those of the formula after it are all.
+all_wanted : (rs : List Row) → wanted (take_until (has alternative) rs) ++ flatten (node_of rs).formula ≡ wanted rs
+unfolding wanted take_until split_at_each literals node_of flatten
+all_wanted [] = refl
+all_wanted (r ∷ rs) = go (has alternative r) refl (all_wanted rs)
+  where
+    go : (b : Bool) → has alternative r ≡ b → wanted (take_until (has alternative) rs) ++ flatten (node_of rs).formula ≡ wanted rs
+        → wanted (cond b [] (r ∷ take_until (has alternative) rs))
+        ++ flatten (map wanted (cond b ((r ∷ take_until (has alternative) rs) ∷ split_at_each (has alternative) rs) (split_at_each (has alternative) rs)))
+        ≡ wanted (r ∷ rs)
+    go true e ih = rw (eqb-true r.tag alternative e) ih
+    go false e ih =
+        ap (λ (ls : List Literal). ls ++ flatten (node_of rs).formula) (first_row_law wanted_true wanted_false r (take_until (has alternative) rs))
+        ∙ append_assoc (wanted (r ∷ [])) _ _
+        ∙ ap (λ (ls : List Literal). wanted (r ∷ []) ++ ls) ih
+        ∙ sym (first_row_law wanted_true wanted_false r rs)
+
+-- The effects contain a literal of these rows or did one before them (`helped`), and the opposite of none of these rows.
+pub relevant_from : List Literal → Bool → Bool → List Row → Bool
+relevant_from effects inside helped rs =
+    (helped || any (contains effects) (wanted_from inside rs)) && not (any (λ l. contains effects (opposite l)) (wanted_from inside rs))
+
+module _ (effects : List Literal) where
+  pub relevant_from_law : (rs : List Row) → relevant effects (node_of rs).formula ≡ relevant_from effects false false rs
+  unfolding relevant_from wanted_from relevant
+  relevant_from_law rs = refl
+
+  pub helped_so_far : (inside helped : Bool) → relevant_from effects inside helped [] ≡ helped
+  unfolding relevant_from wanted_from wanted any literals node_of split_at_each flatten
+  helped_so_far true true = refl
+  helped_so_far true false = refl
+  helped_so_far false true = refl
+  helped_so_far false false = refl
+
+  module _ (t v : ℕ) (rs : List Row) where
+    pub entered : (inside helped : Bool) → t ≡ alternative → relevant_from effects inside helped (row t v ∷ rs) ≡ relevant_from effects true helped rs
+    unfolding relevant_from wanted_from wanted node_of split_at_each literals flatten
+    entered true helped e = rw e
+    entered false helped e = rw (e, all_wanted rs)
+
+    pub still_outside : (helped : Bool) → (t ≡ alternative → ⊥) → relevant_from effects false helped (row t v ∷ rs) ≡ relevant_from effects false helped rs
+    unfolding relevant_from wanted_from node_of split_at_each
+    still_outside helped d = rw (ne_eqb t alternative d)
+
+    any_wanted : (test : Literal → Bool) → any test (wanted (row t v ∷ rs)) ≡ (any test (literals wanted_true wanted_false (row t v ∷ [])) || any test (wanted rs))
+    unfolding wanted
+    any_wanted test = ap (any test) (first_row_law wanted_true wanted_false (row t v) rs) ∙ any_append test _ _
+
+    -- What the effects do to the row's literal.
+    module _ (helped : Bool) {told : Met} (e : told ≡ met_of effects (literals wanted_true wanted_false (row t v ∷ []))) where
+      pub blocked : told ≡ Opposite → relevant_from effects true helped (row t v ∷ rs) ≡ false
+      unfolding relevant_from wanted_from
+      blocked h =
+          rw (any_wanted (λ l. contains effects (opposite l)), opposed effects (literals wanted_true wanted_false (row t v ∷ [])) (sym e ∙ h))
+          (and-false (helped || any (contains effects) (wanted (row t v ∷ rs))))
+
+      pub met_same : told ≡ Same → relevant_from effects true helped (row t v ∷ rs) ≡ relevant_from effects true true rs
+      unfolding relevant_from wanted_from
+      met_same h =
+          let m = Meetings.helped effects (literals wanted_true wanted_false (row t v ∷ [])) (sym e ∙ h) in
+          rw (any_wanted (λ l. contains effects (opposite l)), m.0, any_wanted (contains effects), m.1, or-true)
+
+      pub met_neither : told ≡ Neither → relevant_from effects true helped (row t v ∷ rs) ≡ relevant_from effects true helped rs
+      unfolding relevant_from wanted_from
+      met_neither h =
+          let m = untouched effects (literals wanted_true wanted_false (row t v ∷ [])) (sym e ∙ h) in
+          rw (any_wanted (λ l. contains effects (opposite l)), m.0, any_wanted (contains effects), m.1)

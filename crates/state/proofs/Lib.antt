@@ -2,5 +2,6 @@
 pub mod Walks
 pub mod ByRow
 pub mod Tests
+pub mod Meetings
 pub mod Formulas
 pub mod Relevances

@@ -3,7 +3,7 @@
 use Prim.Native.Nat.{ℕ, zero, suc, ◌+◌, ◌-◌, ◌<◌, ◌≤◌, min}
 use native.Mathlib.Omega.{arith}
 use mathlib.Core.Path.{◌≡◌, refl, sym, ap, ap₂, ◌∙◌}
-use mathlib.Core.Bool.{Bool, true, false, cond, ◌&&◌, ◌||◌, or_assoc, or-true, or-false, and-true, and-false, beq}
+use mathlib.Core.Bool.{Bool, true, false, true≢false, cond, ◌&&◌, ◌||◌, or_assoc, or-true, or-false, and-true, and-false, beq}
 use mathlib.Core.List.{List, [], ◌∷◌, ◌++◌, map, zip_with, flatten, append_assoc}
 use mathlib.Core.Option.{Option, none, some}
 use lib.Dec.{eqb}
@@ -16,12 +16,11 @@ use Rattle.hgn.specs.Tag.{alternative, wanted_true, wanted_false}
 use Rattle.hgn.specs.Meaning.{Literal, literals, node_of}
 use Rattle.hgn.specs.State.{State, most_atoms, empty_state, assign, opposite, literal_holds, contains}
 use Rattle.hgn.specs.Relevance.{Relevance, blocked, helping, neither, relevance}
-use Rattle.hgn.proofs.Logic.Tests.{any_append}
 use Rattle.hgn.proofs.Logic.Relevance.{told}
 use Rattle.sheet_index.specs.declared.index.Part.{Part}
 use Rattle.sheet_index.specs.Index.{part_rows}
 use Rattle.state.specs.declared.literals.LiteralTags.{LiteralTags}
-use Rattle.state.specs.Relevances.{followed, effect_met_by, wanted_in, effects_in, effect_at, NextEffect, Marked}
+use Rattle.state.specs.Relevances.{followed, effect_met_by, wanted_in, effects_in, NextEffect, Marked}
 use Rattle.state.proofs.Walks.{by_row, at_end, Ahead, row_inside, row_next, row_none}
 use Rattle.state.proofs.ByRow.{true_row, false_row, no_row, first_row_law, assigned_in, assigned_first, assigned_other, assigned_none}
 
@@ -211,6 +210,26 @@ module _ (tags values : List ℕ) (a : ℕ) (positive negative : Bool) (i n : �
       (sym (at_end (wanted_from true a positive) tags values i n count seen.wanted_true_marked h (wanted_none true a positive)))
       (sym (at_end (wanted_from false a negative) tags values i n count seen.wanted_false_marked h (wanted_none false a negative)))
       ∙ rw (← is) (sym (met_by (wanted_in (zip_with row tags values)) e))
+
+-- An effect whose atom is wanted neither true nor false meets nothing.
+pub nothing_met : (e : Literal) (positive negative : Bool) → (positive || negative) ≡ false → effect_met_by e positive negative ≡ neither
+nothing_met e true negative h = absurd (true≢false h)
+nothing_met e false true h = absurd (true≢false h)
+nothing_met e false false h = go e.sign
+  where
+    go : (s : Bool) → cond (cond s false false) (blocked e) (cond (cond s false false) (helping e) neither) ≡ neither
+    go true = refl
+    go false = refl
+
+pub neither_twice : followed neither neither ≡ neither
+unfolding followed
+neither_twice = refl
+
+-- Of four tests none is true.
+pub none_of_four : (a b c d : Bool) → (((a || b) || c) || d) ≡ false → ((a || b) ≡ false) × ((c || d) ≡ false)
+none_of_four true b c d h = absurd (true≢false h)
+none_of_four false true c d h = absurd (true≢false h)
+none_of_four false false c d h = (refl, h)
 
 module _ (b : Bool) (a : ℕ) where
   set_one : (s : State) (v : ℕ) (rest : Bool) → a < length s → (rest || get_or (set s v true) a false) ≡ (eqb v a || rest || get_or s a false)

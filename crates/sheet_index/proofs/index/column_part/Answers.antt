@@ -1,0 +1,19 @@
+-- The part is made where the sheet has the rows, by the definition's three tests. Assumes nothing.
+use mathlib.Core.Path.{sym}
+use Rattle.sheet_index.specs.Index.{span}
+use Rattle.sheet_index.proofs.Spans.{column_inside, column_turned, column_past, column_short}
+use Rattle.sheet_index.proofs.index.column_part.Goals as goal
+use Rattle.sheet_index.proofs.index.column_part.Goals.{then-from-to+then-to-layout+else-layout-words, then-from-to+else-to-layout, else-from-to}
+
+pub returns-then-layout-words : goal.returns-then-layout-words
+unfolding span
+returns-then-layout-words c = sym (column_inside _ _ _ _ _ c.if-from-to.true c.if-to-layout.true c.if-layout-words.true)
+
+pub returns : goal.returns
+unfolding span
+returns c =
+    elim c.if-from-to.branch [
+      | then-from-to+then-to-layout+else-layout-words w ↦ sym (column_short _ _ _ _ _ w.if-from-to.true w.if-to-layout.true w.if-layout-words.false)
+      | then-from-to+else-to-layout w ↦ sym (column_past _ _ _ _ _ w.if-from-to.true w.if-to-layout.false)
+      | else-from-to w ↦ sym (column_turned _ _ _ _ _ w.if-from-to.false)
+    ]
