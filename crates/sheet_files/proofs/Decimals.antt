@@ -1,56 +1,32 @@
--- The fewest digits that hold a number are as many as are counted. Assumes nothing.
-use Prim.Native.Nat.{ℕ, zero, suc, ◌*◌, ◌-◌, ◌/◌, ◌^◌, ◌<◌, ◌≤◌}
+-- What std prints of a number is the definition's text of it. Assumes nothing.
+use Prim.Native.Nat.{ℕ, suc, ◌+◌, ◌/◌, ◌%◌, ◌^◌, ◌<◌, ◌≤◌}
 use native.Mathlib.Omega.{arith}
-use native.Mathlib.Nat.{pow-suc}
-use mathlib.Core.Path.{◌≡◌, sym, ap, subst, ◌∙◌}
-use mathlib.Core.Bool.{Bool, cond}
-use mathlib.Core.List.{List}
-use mir.Syntax.{w64}
-use mir.Val.{Fits}
-use borrow.Author.Tests.{lt-ltb, le-ltb}
-use Rattle.io.specs.Digits.{last_digits, IsDigitCount}
-use Rattle.sheet_files.specs.Texts.{most_digits, digit_count, decimal}
+use mathlib.Core.Path.{◌≡◌, refl, sym}
+use mathlib.Core.List.{List, [], ◌∷◌, ◌++◌}
+use lib.ListN.{length}
+use Rattle.std.specs.Fmt as Fmt
+use Rattle.std.proofs.lemmas.Bool.{lt-ltb, le-ltb}
+use Rattle.std.proofs.lemmas.Fmt.{decimal_from_appends, length-decimal-le}
+use Rattle.sheet_files.specs.Texts.{most_digits, digit_count, last_digits, decimal}
 
-power_more : (k : ℕ) → 10 ^ suc k ≡ 10 ^ k * 10
-power_more k = pow-suc 10 k
+digits_up_to : ℕ → ℕ → List ℕ
+digits_up_to k n = last_digits (digit_count k n) n
 
-power_positive : (k : ℕ) → 1 ≤ 10 ^ k
-power_positive zero = omega arith
-power_positive (suc k) = omega (arith, power_more k, power_positive k)
+one : (k n : ℕ) → n < 10 → digits_up_to (suc k) n ≡ (48 + n) ∷ []
+unfolding digits_up_to digit_count last_digits
+one k n h =
+    let e : n % 10 ≡ n = omega arith in
+    rw (lt-ltb n 10 h, e)
 
-above : (n k : ℕ) → IsDigitCount 10 1 n (suc (suc k)) → 10 ^ suc k ≤ n
-above n k f =
-    let e : suc (suc k) - 1 ≡ suc k = omega arith in
-    subst (λ (j : ℕ). 10 ^ j ≤ n) e (f.2 (omega arith))
-
--- One digit fewer holds the number without its last digit.
-fewest_less : (n k : ℕ) → IsDigitCount 10 1 n (suc (suc k)) → IsDigitCount 10 1 (n / 10) (suc k)
-fewest_less n k f =
-    let e : k ≡ suc k - 1 = omega arith in
-    let less : 10 ^ k ≤ n / 10 = omega (arith, above n k f, power_more k) in
-    (omega arith, omega (arith, f.1, power_more (suc k)), (λ h. subst (λ (j : ℕ). 10 ^ j ≤ n / 10) e less))
-
--- A number below a power of ten has no more digits than the power.
-fewest_few : (most n k : ℕ) → IsDigitCount 10 1 n k → n < 10 ^ suc most → k ≤ suc most
-fewest_few most n zero f h = omega arith
-fewest_few most n (suc zero) f h = omega arith
-fewest_few zero n (suc (suc k)) f h = absurd (omega (arith, above n k f, h, power_more k, power_positive k))
-fewest_few (suc most) n (suc (suc k)) f h = omega (arith, fewest_few most (n / 10) (suc k) (fewest_less n k f) (omega (arith, h, power_more (suc most))))
+more : (k n : ℕ) → 10 ≤ n → digits_up_to (suc k) n ≡ digits_up_to k (n / 10) ++ ((48 + n % 10) ∷ [])
+unfolding digits_up_to digit_count last_digits
+more k n h = rw (le-ltb n 10 h)
 
 -- Every 64-bit number has no more digits than a text has room for.
-pub digits_few : {n : ℕ} (k : ℕ) → Fits w64 n → IsDigitCount 10 1 n k → k ≤ most_digits
-digits_few {n} k h f = fewest_few (most_digits - 1) n k f (omega arith)
+pub digits_few : {n : ℕ} {s : List ℕ} → n < 2 ^ 64 → s ≡ Fmt.decimal n → length s ≤ most_digits
+digits_few {n} h e = rw e (length-decimal-le most_digits n (omega arith) (omega arith) h)
 
-places_are : (most n k : ℕ) → IsDigitCount 10 1 n k → k ≤ most → digit_count most n ≡ k
-unfolding digit_count
-places_are zero n k f h = absurd (omega (arith, f.0))
-places_are (suc most) n zero f h = absurd (omega (arith, f.0))
-places_are (suc most) n (suc zero) f h = rw (lt-ltb n 10 f.1)
-places_are (suc most) n (suc (suc k)) f h =
-    let more : 10 ≤ n = omega (arith, above n k f, power_more k, power_positive k) in
-    ap {B = ℕ} (λ (b : Bool). cond b 1 (suc (digit_count most (n / 10)))) (le-ltb n 10 more)
-    ∙ ap suc (places_are most (n / 10) (suc k) (fewest_less n k f) (omega arith))
-
-pub decimal_is : (n k : ℕ) → IsDigitCount 10 1 n k → k ≤ most_digits → last_digits 10 k n ≡ decimal n
-unfolding decimal
-decimal_is n k f h = ap {B = List ℕ} (λ (j : ℕ). last_digits 10 j n) (sym (places_are most_digits n k f h))
+pub decimal_is : {n : ℕ} {s : List ℕ} → n < 2 ^ 64 → s ≡ Fmt.decimal n → s ≡ decimal n
+unfolding decimal digits_up_to
+decimal_is {n} h e =
+    rw (e, sym (decimal_from_appends digits_up_to (record { one = one; more = more }) most_digits n h (digits_few h refl)))

@@ -1,10 +1,10 @@
 -- Bytes written of words are read again as the same words. Assumes nothing.
-use Prim.Native.Nat.{ℕ, zero, suc, ◌*◌, ◌/◌, ◌%◌, ◌<◌}
+use Prim.Native.Nat.{ℕ, zero, suc, ◌/◌, ◌%◌, ◌<◌}
 use native.Mathlib.Omega.{arith}
 use mathlib.Core.Path.{◌≡◌, refl, ap₂}
 use mathlib.Core.List.{List, [], ◌∷◌}
 use lib.ListN.{get_or}
-use Rattle.sheet_files.specs.Words.{word_of, words_of, bytes_of, ReadBack, BytesAreReadBack}
+use Rattle.sheet_files.specs.Words.{word_of, words_of, bytes_of, BytesAreReadBack}
 use Rattle.sheet_files.proofs.ByIndex.{length_bytes}
 
 word_again : (w : ℕ) → word_of (w % 256) (w / 256) ≡ w

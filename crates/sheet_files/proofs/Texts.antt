@@ -1,26 +1,25 @@
 -- A number behind the first bytes of a text, and the five of a heading. Assumes nothing.
-use Prim.Native.Nat.{ℕ, ◌+◌, ◌<◌, ◌≤◌}
+use Prim.Native.Nat.{ℕ, ◌+◌, ◌^◌, ◌<◌}
 use native.Mathlib.Omega.{arith}
 use native.Mathlib.Numerals.{add-one}
-use mathlib.Core.Path.{◌≡◌, sym, ap, ◌∙◌}
+use mathlib.Core.Path.{◌≡◌, ap, ◌∙◌}
 use mathlib.Core.List.{List, [], ◌∷◌, ◌++◌, append_assoc}
 use lib.ListN.{length, set, take}
 use lib.Seq.{paste, take-paste, length-paste, take-suc-set, take_all}
-use Rattle.io.specs.Digits.{last_digits, IsDigitCount}
-use Rattle.sheet_files.specs.Texts.{ended, blank, newline, heading, decimal, most_digits}
+use Rattle.std.specs.Fmt as Fmt
+use Rattle.sheet_files.specs.Texts.{ended, blank, newline, heading, decimal}
 use Rattle.sheet_files.proofs.Decimals.{decimal_is}
 
 -- The digits, then the byte that ends the number.
-pub put_is : (text s : List ℕ) (at k n end : ℕ) → at + k < length text → IsDigitCount 10 1 n k → k ≤ most_digits → k ≡ length s → s ≡ last_digits 10 k n
-    → take (at + k + 1) (set (paste text at s (length s)) (at + k) end) ≡ take at text ++ ended end n
+pub put_is : (text s : List ℕ) (at n end : ℕ) → at + length s < length text → n < 2 ^ 64 → s ≡ Fmt.decimal n
+    → take (at + length s + 1) (set (paste text at s (length s)) (at + length s) end) ≡ take at text ++ ended end n
 unfolding ended
-put_is text s at k n end h f few e is =
-    let whole : length (paste text at s k) ≡ length text = length-paste text at s k (omega arith) (omega arith) in
-    ap {B = List ℕ} (λ (j : ℕ). take (at + k + 1) (set (paste text at s j) (at + k) end)) (sym e)
-    ∙ ap {B = List ℕ} (λ (j : ℕ). take j (set (paste text at s k) (at + k) end)) (add-one (at + k))
-    ∙ take-suc-set (paste text at s k) (at + k) end (omega arith)
-    ∙ ap {B = List ℕ} (λ l. l ++ (end ∷ [])) (take-paste text at s k (omega arith) (omega arith)
-    ∙ ap {B = List ℕ} (λ l. take at text ++ l) (take_all k s (omega arith) ∙ is ∙ decimal_is n k f few))
+put_is text s at n end h small is =
+    let whole : length (paste text at s (length s)) ≡ length text = length-paste text at s (length s) (omega arith) (omega arith) in
+    ap {B = List ℕ} (λ (j : ℕ). take j (set (paste text at s (length s)) (at + length s) end)) (add-one (at + length s))
+    ∙ take-suc-set (paste text at s (length s)) (at + length s) end (omega arith)
+    ∙ ap {B = List ℕ} (λ l. l ++ (end ∷ [])) (take-paste text at s (length s) (omega arith) (omega arith)
+    ∙ ap {B = List ℕ} (λ l. take at text ++ l) (take_all (length s) s (omega arith) ∙ decimal_is small is))
     ∙ append_assoc (take at text) (decimal n) (end ∷ [])
 
 pub heading_is : (number place count cost atom : ℕ) {t1 t2 t3 t4 t5 : List ℕ}

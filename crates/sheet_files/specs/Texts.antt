@@ -1,7 +1,6 @@
 -- Numbers as decimal text, and the line that begins an answer. Document 01, "One core of sixty centimetres"; document 02,
 -- Req 01.
-use Rattle.std.specs.Prelude.{ℕ, zero, suc, ◌+◌, ◌*◌, ◌/◌, cond, List, [], ◌∷◌, ◌++◌, ltb}
-use Rattle.io.specs.Digits.{last_digits}
+use Rattle.std.specs.Prelude.{ℕ, zero, suc, ◌+◌, ◌*◌, ◌/◌, ◌%◌, cond, List, [], ◌∷◌, ◌++◌, ltb}
 use Rattle.hgn.specs.State.{no_atom}
 use Rattle.hgn.specs.Questions.{Refusal}
 use Rattle.hgn.specs.Replay.{Replayed}
@@ -15,9 +14,14 @@ unfoldable pub digit_count : ℕ → ℕ → ℕ
 digit_count zero n = 0
 digit_count (suc k) n = cond (ltb n 10) 1 (suc (digit_count k (n / 10)))
 
+-- So many of a number's last decimal digits, in ASCII, the last of all behind the others.
+unfoldable pub last_digits : ℕ → ℕ → List ℕ
+last_digits zero n = []
+last_digits (suc k) n = last_digits k (n / 10) ++ ((48 + n % 10) ∷ [])
+
 -- A number of no more digits than these, in ASCII.
 unfoldable pub decimal : ℕ → List ℕ
-decimal n = last_digits 10 (digit_count most_digits n) n
+decimal n = last_digits (digit_count most_digits n) n
 
 -- A number and the byte that ends it.
 unfoldable pub ended : ℕ → ℕ → List ℕ

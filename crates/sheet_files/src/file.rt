@@ -2,8 +2,12 @@
 ghost use Rattle.std.specs.Prelude.{length};
 ghost use Rattle.sheet_files.specs.Files.{Within, PieceWithin};
 
+use crate::failure::{Lossy, Reason};
 use sheet_check::check::{Order, Shop, Trace};
 use sheet_check::rows::Layout;
+use std::io::{Error, ErrorKind, Read};
+use std::rt::Files;
+use std::{fs, io, str};
 
 // Two bytes past the largest sheet of a kind, so that a sheet that is too long is refused by its length, as any other.
 pub const SHOP_BYTES: usize = 2 * (Shop::SIZES + 2 * (Layout::MOST_ROWS as usize)) + 2;
@@ -26,7 +30,7 @@ pub enum Reading {
     Failed,
 }
 
-// What came of one read.
+// What came of one read. A failure has been told.
 #[derive(Clone, Copy)]
 enum Piece {
     Bytes(usize),
@@ -34,35 +38,52 @@ enum Piece {
     Failed,
 }
 
-// On standard error: the program, what it could not do (between a colon and the name), the file, and the operating system's reason. The
-// reason is that of the call before, so this comes right behind the call that failed.
-pub fn tell_failure(program: &[u8], deed: &[u8], name: &[u8]) {
-    io::write_all(libc::STDERR_FILENO, program);
-    io::write_all(libc::STDERR_FILENO, deed);
-    os::fail(name);
+// On standard error: the program, what it could not do (between a colon and the name), the file, and the operating system's reason.
+pub fn tell_failure(rt: &impl Eprint, program: &[u8], deed: &[u8], name: &[u8], error: Error) {
+    let _ = rt.eprintln(format_args!(
+        "{}{}{}: {}",
+        Lossy(program),
+        Lossy(deed),
+        Lossy(name),
+        Reason(error)
+    ));
 }
 
-fn tell_unread(program: &[u8], name: &[u8]) {
-    tell_failure(program, b": cannot read ", name);
+fn tell_unread(rt: &impl Eprint, program: &[u8], name: &[u8], error: Error) {
+    tell_failure(rt, program, b": cannot read ", name, error);
 }
 
 // One read into the rest of the room; 0 bytes at the file's end.
-fn read_piece(fd: i32, rest: &mut [u8]) -> Piece
+fn read_piece<F: Read>(
+    rt: &impl Eprint,
+    file: &mut F,
+    program: &[u8],
+    name: &[u8],
+    rest: &mut [u8],
+) -> Piece
     ensures { PieceWithin (length rest.new) result }
 {
-    let got = libc::read(fd, rest);
-    if got < 0 {
-        if os::errno() == libc::EINTR {
-            return Piece::Interrupted;
+    match file.read(rest) {
+        Ok(count) => Piece::Bytes(count),
+        Err(error) => {
+            if error.kind() == ErrorKind::Interrupted {
+                return Piece::Interrupted;
+            }
+            tell_unread(rt, program, name, error);
+            Piece::Failed
         }
-        return Piece::Failed;
     }
-    Piece::Bytes(io::count(got, rest))
 }
 
 // Reads on until the room is full or the file ends; a read that a signal interrupts is made again. A proved loop has to end, and
 // nothing says that signals do, so the turns are counted down from a number that no run uses up.
-fn read_open(fd: i32, program: &[u8], name: &[u8], room: &mut [u8]) -> Reading
+fn read_open<F: Read>(
+    rt: &impl Eprint,
+    file: &mut F,
+    program: &[u8],
+    name: &[u8],
+    room: &mut [u8],
+) -> Reading
     ensures { Within (length room.new) result }
 {
     let mut count = 0;
@@ -72,7 +93,7 @@ fn read_open(fd: i32, program: &[u8], name: &[u8], room: &mut [u8]) -> Reading
         if room.len() <= count {
             return Reading::Bytes(count);
         }
-        match read_piece(fd, &mut room[count..]) {
+        match read_piece(rt, file, program, name, &mut room[count..]) {
             Piece::Bytes(more) => {
                 if more == 0 {
                     return Reading::Bytes(count);
@@ -81,30 +102,40 @@ fn read_open(fd: i32, program: &[u8], name: &[u8], room: &mut [u8]) -> Reading
             }
             Piece::Interrupted => {}
             Piece::Failed => {
-                tell_unread(program, name);
                 return Reading::Failed;
             }
         }
     }
-    tell_unread(program, name);
+    tell_unread(rt, program, name, Error::from(ErrorKind::Interrupted));
     Reading::Failed
+}
+
+// The path of a file of the current folder. A name that is no UTF-8 is refused.
+pub(crate) fn path_of(name: &[u8]) -> io::Result<&str> {
+    match str::from_utf8(name) {
+        Ok(path) => Ok(path),
+        Err(_) => Err(Error::new(ErrorKind::InvalidFilename, "the name is no UTF-8")),
+    }
+}
+
+fn open<R: Files>(rt: &R, name: &[u8]) -> io::Result<R::File> {
+    fs::open(rt, path_of(name)?)
 }
 
 // Reads a file of the current folder into the room, as far as the room goes. A missing file is empty; one that is there and can't
 // be opened or read is told on standard error in the program's name, and is no empty file. What a file holds no contract says: which
 // bytes come, and how many, is left free, but no more than the room takes.
-pub fn read(program: &[u8], name: &[u8], room: &mut [u8]) -> Reading
+pub fn read(rt: &(impl Files + Eprint), program: &[u8], name: &[u8], room: &mut [u8]) -> Reading
     ensures { Within (length room.new) result }
 {
-    let fd = os::open_read(name);
-    if fd < 0 {
-        if os::errno() == libc::ENOENT {
-            return Reading::Bytes(0);
+    match open(rt, name) {
+        Ok(mut file) => read_open(rt, &mut file, program, name, room),
+        Err(error) => {
+            if error.kind() == ErrorKind::NotFound {
+                return Reading::Bytes(0);
+            }
+            tell_unread(rt, program, name, error);
+            Reading::Failed
         }
-        tell_unread(program, name);
-        return Reading::Failed;
     }
-    let reading = read_open(fd, program, name, room);
-    libc::close(fd);
-    reading
 }

@@ -2,6 +2,7 @@
 // begins an answer. Document 01, "One core of sixty centimetres". Only `file` and `written` call the operating system.
 #![tactic(auto)]
 
+mod failure;
 pub mod file;
 pub mod text;
 pub mod words;

@@ -4,6 +4,7 @@ ghost use Rattle.std.proofs.Math.Seq.{paste};
 ghost use Rattle.sheet_rows.specs.Refusals.{refusal_of};
 ghost use Rattle.sheet_files.specs.Texts.{ended, heading, answer_line, number_bytes, heading_bytes};
 
+use itoa::Buffer;
 use sheet_rows::refusal::Refusal;
 use state::atoms;
 
@@ -40,11 +41,12 @@ pub fn put(text: &mut [u8], at: usize, number: u64, end: u8) -> usize
     ensures few { result ≤ at + number_bytes }
     ensures text { take result text.new ≡ take at text.old ++ ended end number }
 {
-    let mut digits = [0u8; Text::MOST_DIGITS];
-    let count = io::decimal(number, &mut digits);
-    copy(&digits[..count], text, at);
-    text[at + count] = end;
-    at + count + 1
+    let mut room = Buffer::new();
+    let digits = room.format(number).as_bytes();
+    let last = at + digits.len();
+    copy(digits, text, at);
+    text[last] = end;
+    last + 1
 }
 
 // The five numbers of the first line.

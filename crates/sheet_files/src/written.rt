@@ -1,64 +1,107 @@
-// The files that a program writes, and the line that it prints. Document 01, "One core of sixty centimetres", for the words of a file. What a
+// The files that a program writes, and what it prints. Document 01, "One core of sixty centimetres", for the words of a file. What a
 // file or a line then holds no contract says: the bytes come from functions whose contracts do.
-use crate::file::tell_failure;
+use crate::file::{path_of, tell_failure};
+use std::fs::{OpenFile, OpenOptions};
+use std::io::{Error, Write};
+use std::rt::Files;
+use std::{fs, io};
 
 // On standard error, in the program's name, that the file `name` could not be written.
-fn tell_unwritten(program: &[u8], name: &[u8]) {
-    tell_failure(program, b": cannot write ", name);
+fn tell_unwritten(rt: &impl Eprint, program: &[u8], name: &[u8], error: Error) {
+    tell_failure(rt, program, b": cannot write ", name, error);
 }
 
-// All the bytes go into the open file, which is then closed. Answers whether both went well; what did not is told as of the file `name`.
-fn fill(program: &[u8], name: &[u8], fd: i32, bytes: &[u8]) -> bool {
-    if io::write_all(fd, bytes) {
-        if libc::close(fd) == 0 {
-            return true;
-        }
-        tell_unwritten(program, name);
-        return false;
+// All the bytes go into the open file, which is then closed. What a close would tell of them no caller sees, so the system is first asked to
+// keep them.
+fn fill<F: Write + OpenFile + Drop>(mut file: F, bytes: &[u8]) -> io::Result<()> {
+    file.write_all(bytes)?;
+    file.sync_all()
+}
+
+// Opens a new file for writing. It fails where a file has the name.
+fn create<R: Files>(rt: &R, name: &[u8]) -> io::Result<R::File> {
+    OpenOptions::new()
+        .write(true)
+        .create_new(true)
+        .open(rt, path_of(name)?)
+}
+
+// Removes what was half made. Where that fails too, nothing more can be done.
+fn remove(rt: &impl Files, name: &[u8]) {
+    if let Ok(path) = path_of(name) {
+        let _ = fs::remove_file(rt, path);
     }
-    tell_unwritten(program, name);
-    libc::close(fd);
-    false
 }
 
 // Makes the new file `made` with these bytes. Answers whether it stands there whole. Where not, this is told as of the file `name`, and what was made
 // is removed; a file that stood there before is not touched.
-fn make(program: &[u8], name: &[u8], made: &[u8], bytes: &[u8]) -> bool {
-    let fd = os::create(made);
-    if fd < 0 {
-        tell_unwritten(program, name);
-        return false;
+fn make(
+    rt: &(impl Files + Eprint),
+    program: &[u8],
+    name: &[u8],
+    made: &[u8],
+    bytes: &[u8],
+) -> bool {
+    match create(rt, made) {
+        Ok(file) => match fill(file, bytes) {
+            Ok(()) => true,
+            Err(error) => {
+                tell_unwritten(rt, program, name, error);
+                remove(rt, made);
+                false
+            }
+        },
+        Err(error) => {
+            tell_unwritten(rt, program, name, error);
+            false
+        }
     }
-    if fill(program, name, fd, bytes) {
-        return true;
-    }
-    os::unlink(made);
-    false
 }
 
 // Makes a new file of the current folder. Answers whether it stands there whole; where not, this was told, and a file that stood there before
 // is as it was.
-pub fn write_new(program: &[u8], name: &[u8], bytes: &[u8]) -> bool {
-    make(program, name, name, bytes)
+pub fn write_new(rt: &(impl Files + Eprint), program: &[u8], name: &[u8], bytes: &[u8]) -> bool {
+    make(rt, program, name, name, bytes)
+}
+
+fn rename(rt: &impl Files, from: &[u8], to: &[u8]) -> io::Result<()> {
+    fs::rename(rt, path_of(from)?, path_of(to)?)
 }
 
 // Puts a file of the current folder in the place of one that may stand there: makes it under the name `made`, which no file has, and renames
 // it once it is whole. Answers whether it did; where not, this was told, and the older file is as it was.
-pub fn replace(program: &[u8], name: &[u8], made: &[u8], bytes: &[u8]) -> bool {
-    if make(program, name, made, bytes) {
-        if os::rename(made, name) == 0 {
-            return true;
-        }
-        tell_unwritten(program, name);
-        os::unlink(made);
+pub fn replace(
+    rt: &(impl Files + Eprint),
+    program: &[u8],
+    name: &[u8],
+    made: &[u8],
+    bytes: &[u8],
+) -> bool {
+    if !make(rt, program, name, made, bytes) {
+        return false;
     }
-    false
+    match rename(rt, made, name) {
+        Ok(()) => true,
+        Err(error) => {
+            tell_unwritten(rt, program, name, error);
+            remove(rt, made);
+            false
+        }
+    }
+}
+
+// A text goes to standard output. Answers whether all of it did; where not, standard error says so, in the program's name and of `what`.
+pub fn print(rt: &(impl Print + Eprint), program: &[u8], what: &[u8], text: &[u8]) -> bool {
+    match rt.write_all(text) {
+        Ok(()) => true,
+        Err(error) => {
+            tell_unwritten(rt, program, what, error);
+            false
+        }
+    }
 }
 
 // The line of an answer goes to standard output. Where that fails, standard error says so.
-pub fn print_line(program: &[u8], line: &[u8]) {
-    if io::write_all(libc::STDOUT_FILENO, line) {
-        return;
-    }
-    tell_unwritten(program, b"the answer");
+pub fn print_line(rt: &(impl Print + Eprint), program: &[u8], line: &[u8]) {
+    print(rt, program, b"the answer", line);
 }
