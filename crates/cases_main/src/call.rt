@@ -71,47 +71,62 @@ impl Call {
 
     fn write_answer<'a>(
         self,
+        rt: &impl Print,
         shop: &'a [u16],
         order: &'a [u16],
         trace: &'a [u16],
         room: &mut [u16],
     ) {
         match self {
-            Call::Shop => line::verdict(check_shop(shop)),
-            Call::Order => line::verdict(check_order(shop, order)),
-            Call::Trace => line::verdict(check_trace(shop, order, trace)),
-            Call::Replay => replayed::write(shop, order, trace, room),
-            Call::Search => searched::write(shop, order, trace, room),
-            Call::Join => joined::write(shop, order, trace, room),
-            Call::Display => stepping::write(shop, order, trace, View::Steps),
-            Call::Listing => listed::write(shop, order, trace, room),
-            Call::Goals => stepping::write(shop, order, trace, View::Goals),
+            Call::Shop => line::verdict(rt, check_shop(shop)),
+            Call::Order => line::verdict(rt, check_order(shop, order)),
+            Call::Trace => line::verdict(rt, check_trace(shop, order, trace)),
+            Call::Replay => replayed::write(rt, shop, order, trace, room),
+            Call::Search => searched::write(rt, shop, order, trace, room),
+            Call::Join => joined::write(rt, shop, order, trace, room),
+            Call::Display => stepping::write(rt, shop, order, trace, View::Steps),
+            Call::Listing => listed::write(rt, shop, order, trace, room),
+            Call::Goals => stepping::write(rt, shop, order, trace, View::Goals),
         }
     }
 
     // The call on what the texts say. Each sheet is made by a function of its own: one with three rooms takes longer to prove.
-    pub fn run(self, shop: &[u8], order: &[u8], trace: &[u8], room: &[u8]) {
+    pub fn run(self, rt: &impl Print, shop: &[u8], order: &[u8], trace: &[u8], room: &[u8]) {
         let mut words = [0u16; sheet::ROOM];
         let length = sheet::write(&mut words, sheet::SHOP, shop);
-        self.run_on_shop(&words[0..length], order, trace, room);
+        self.run_on_shop(rt, &words[0..length], order, trace, room);
     }
 
-    fn run_on_shop(self, shop: &[u16], order: &[u8], trace: &[u8], room: &[u8]) {
+    fn run_on_shop(self, rt: &impl Print, shop: &[u16], order: &[u8], trace: &[u8], room: &[u8]) {
         let mut words = [0u16; sheet::ROOM];
         let length = sheet::write(&mut words, sheet::ORDER, order);
-        self.run_on_order(shop, &words[0..length], trace, room);
+        self.run_on_order(rt, shop, &words[0..length], trace, room);
     }
 
-    fn run_on_order<'a>(self, shop: &'a [u16], order: &'a [u16], trace: &[u8], room: &[u8]) {
+    fn run_on_order<'a>(
+        self,
+        rt: &impl Print,
+        shop: &'a [u16],
+        order: &'a [u16],
+        trace: &[u8],
+        room: &[u8],
+    ) {
         let mut words = [0u16; sheet::ROOM];
         let length = sheet::write(&mut words, self.third_sizes(), trace);
-        self.run_on_trace(shop, order, &words[0..length], room);
+        self.run_on_trace(rt, shop, order, &words[0..length], room);
     }
 
-    fn run_on_trace<'a>(self, shop: &'a [u16], order: &'a [u16], trace: &'a [u16], room: &[u8]) {
+    fn run_on_trace<'a>(
+        self,
+        rt: &impl Print,
+        shop: &'a [u16],
+        order: &'a [u16],
+        trace: &'a [u16],
+        room: &[u8],
+    ) {
         let mut words = [0u16; room::MOST];
         room::fill(&mut words);
         let length = room::length_of(room);
-        self.write_answer(shop, order, trace, &mut words[0..length]);
+        self.write_answer(rt, shop, order, trace, &mut words[0..length]);
     }
 }

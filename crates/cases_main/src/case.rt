@@ -48,11 +48,12 @@ fn is_readable(with: &[u8], parts: &[u8]) -> bool {
 }
 
 // The case on these sheets, whose trace and room stand behind a bar of its parts. Before the shop sheet stands one byte.
-fn run_from(call: Call, sheets: &[u8], parts: &[u8], bar: usize) {
+fn run_from(rt: &impl Print, call: Call, sheets: &[u8], parts: &[u8], bar: usize) {
     let first = find(sheets, 0, b'|');
     let second = find(sheets, first, b'|');
     let next = find(parts, bar, b'|');
     call.run(
+        rt,
         between(sheets, 0, first),
         between(sheets, first, second),
         between(parts, bar, next),
@@ -60,20 +61,20 @@ fn run_from(call: Call, sheets: &[u8], parts: &[u8], bar: usize) {
     );
 }
 
-fn run_parts(call: Call, with: &[u8], parts: &[u8]) {
+fn run_parts(rt: &impl Print, call: Call, with: &[u8], parts: &[u8]) {
     let bar = find(parts, 0, b'|');
     if is_same(parts) {
-        run_from(call, sheets_of(with), parts, bar);
+        run_from(rt, call, sheets_of(with), parts, bar);
     } else {
-        run_from(call, parts, parts, find(parts, bar, b'|'));
+        run_from(rt, call, parts, parts, find(parts, bar, b'|'));
     }
 }
 
 // Such a line is written back: the output is then not what it must be, and no case is lost unseen.
-fn write_unreadable(line: &[u8]) {
-    line::text(b"unreadable: ");
-    line::text(line);
-    line::text(b"\n");
+fn write_unreadable(rt: &impl Print, line: &[u8]) {
+    line::text(rt, b"unreadable: ");
+    line::text(rt, line);
+    line::text(rt, b"\n");
 }
 
 // Whether a case of this name asks what effects do to a goal. Such a case names no call, since it gives neither a shop nor an order.
@@ -84,42 +85,42 @@ fn asks_relevance(name: &[u8]) -> bool
 }
 
 // A case of relevance, whose parts stand from the place `end` on.
-fn run_relevance(line: &[u8], end: usize) {
+fn run_relevance(rt: &impl Print, line: &[u8], end: usize) {
     let answer = relevances::answer_to(rest(line, end));
     match answer {
         Answer::Told(told) => {
-            line::text(front(line, end));
-            relevances::write(told);
+            line::text(rt, front(line, end));
+            relevances::write(rt, told);
         }
-        Answer::Unreadable => write_unreadable(line),
+        Answer::Unreadable => write_unreadable(rt, line),
     }
 }
 
 // A case of a call, whose name ends at `colon` and whose parts stand from the place `end` on.
-fn run_call(with: &[u8], line: &[u8], colon: usize, end: usize) {
+fn run_call(rt: &impl Print, with: &[u8], line: &[u8], colon: usize, end: usize) {
     let parts = rest(line, end);
     if is_readable(with, parts) {
         if let Named::Call(call) = Call::named(front(line, colon)) {
-            line::text(front(line, end));
-            run_parts(call, with, parts);
+            line::text(rt, front(line, end));
+            run_parts(rt, call, with, parts);
             return;
         }
     }
-    write_unreadable(line);
+    write_unreadable(rt, line);
 }
 
-fn run_case(with: &[u8], line: &[u8]) {
+fn run_case(rt: &impl Print, with: &[u8], line: &[u8]) {
     let colon = find(line, 0, b':');
     let end = find(line, colon, b';');
     if asks_relevance(front(line, colon)) {
-        run_relevance(line, end);
+        run_relevance(rt, line, end);
     } else {
-        run_call(with, line, colon, end);
+        run_call(rt, with, line, colon, end);
     }
 }
 
 // A line, after the last `with` line or none.
-pub fn run_line(with: &[u8], line: &[u8]) {
+pub fn run_line(rt: &impl Print, with: &[u8], line: &[u8]) {
     if is_comment(line) {
         return;
     }
@@ -127,8 +128,8 @@ pub fn run_line(with: &[u8], line: &[u8]) {
         if is_plain(sheets_of(line)) {
             return;
         }
-        write_unreadable(line);
+        write_unreadable(rt, line);
     } else {
-        run_case(with, line);
+        run_case(rt, with, line);
     }
 }

@@ -10,36 +10,42 @@ use sheet_join::call::join;
 use sheet_rows::refusal::Refusal;
 
 // The sheet in a room's first words, and the words behind it.
-fn write_sheet(room: &[u16]) {
+fn write_sheet(rt: &impl Print, room: &[u16]) {
     let sizes = OrderSizes::of(room);
     let rows = sizes.rows as usize;
-    line::number(sizes.atoms as u64);
-    line::number(sizes.goals as u64);
-    line::number(sizes.rows as u64);
-    line::text(b",");
-    room::write_part(room, Order::SIZES, rows);
-    line::text(b",");
-    room::write_part(room, Order::SIZES + rows, rows);
-    room::write_rest(room, Order::SIZES + 2 * rows);
+    line::number(rt, sizes.atoms as u64);
+    line::number(rt, sizes.goals as u64);
+    line::number(rt, sizes.rows as u64);
+    line::text(rt, b",");
+    room::write_part(rt, room, Order::SIZES, rows);
+    line::text(rt, b",");
+    room::write_part(rt, room, Order::SIZES + rows, rows);
+    room::write_rest(rt, room, Order::SIZES + 2 * rows);
 }
 
-fn write_answer(answer: Refusal, room: &[u16]) {
-    line::text(b":");
-    line::refusal(answer);
-    line::text(b"; words");
+fn write_answer(rt: &impl Print, answer: Refusal, room: &[u16]) {
+    line::text(rt, b":");
+    line::refusal(rt, answer);
+    line::text(rt, b"; words");
     if answer.number == 0 {
-        write_sheet(room);
+        write_sheet(rt, room);
     } else {
-        room::write_none(true);
-        room::write_rest(room, 0);
+        room::write_none(rt, true);
+        room::write_rest(rt, room, 0);
     }
-    line::text(b"\n");
+    line::text(rt, b"\n");
 }
 
 // The answer is written, and the room is left as the join leaves it.
-pub fn write<'a>(shop: &'a [u16], first: &'a [u16], second: &'a [u16], room: &mut [u16])
+pub fn write<'a>(
+    rt: &impl Print,
+    shop: &'a [u16],
+    first: &'a [u16],
+    second: &'a [u16],
+    room: &mut [u16],
+)
     ensures { room.new ≡ (write_join shop.now first.now second.now room.old).room }
 {
     let answer = join(shop, first, second, room);
-    write_answer(answer, room);
+    write_answer(rt, answer, room);
 }

@@ -1,35 +1,34 @@
-// The line that a case writes.
-use libc::STDOUT_FILENO;
+// The line that a case writes. Nothing is told where it can't be written: the output is then not what it must be.
 use sheet_rows::refusal::Refusal;
 
-pub fn text(bytes: &[u8]) {
-    io::write_all(STDOUT_FILENO, bytes);
+pub fn text(rt: &impl Print, bytes: &[u8]) {
+    let _ = rt.write_all(bytes);
 }
 
-pub fn digits(value: u64) {
-    io::print_decimal(STDOUT_FILENO, value);
+pub fn digits(rt: &impl Print, value: u64) {
+    let _ = rt.print(value);
 }
 
-pub fn number(value: u64) {
-    text(b" ");
-    digits(value);
+pub fn number(rt: &impl Print, value: u64) {
+    text(rt, b" ");
+    digits(rt, value);
 }
 
 // What stands before an item of a list; before the first, nothing.
-pub fn comma(is_first: bool) {
+pub fn comma(rt: &impl Print, is_first: bool) {
     if !is_first {
-        text(b",");
+        text(rt, b",");
     }
 }
 
 // The number and the place of a refusal.
-pub fn refusal(refusal: Refusal) {
-    number(refusal.number as u64);
-    number(refusal.place as u64);
+pub fn refusal(rt: &impl Print, refusal: Refusal) {
+    number(rt, refusal.number as u64);
+    number(rt, refusal.place as u64);
 }
 
 // What a check answers, and the line's end.
-pub fn verdict(answer: Refusal) {
-    refusal(answer);
-    text(b"\n");
+pub fn verdict(rt: &impl Print, answer: Refusal) {
+    refusal(rt, answer);
+    text(rt, b"\n");
 }

@@ -13,19 +13,19 @@ use step::moves::Step;
 use step::problem::Problem;
 use trace_reader::reader::{TraceRow, next};
 
-fn write_line(line: Line) {
-    line::number(line.above as u64);
-    line::number(line.released as u64);
-    line::number(line.brought as u64);
-    line::number(line.method as u64);
+fn write_line(rt: &impl Print, line: Line) {
+    line::number(rt, line.above as u64);
+    line::number(rt, line.released as u64);
+    line::number(rt, line.brought as u64);
+    line::number(rt, line.method as u64);
 }
 
 // What a step gives to the listing. Answers whether no line is written yet.
-fn write_told(told: Told, is_empty: bool) -> bool {
+fn write_told(rt: &impl Print, told: Told, is_empty: bool) -> bool {
     match told {
         Told::Released(line) => {
-            line::comma(is_empty);
-            write_line(line);
+            line::comma(rt, is_empty);
+            write_line(rt, line);
             false
         }
         Told::Nothing => is_empty,
@@ -34,6 +34,7 @@ fn write_told(told: Told, is_empty: bool) -> bool {
 
 // The lines of the trace's steps, taken one by one from the first record. Answers whether there are none.
 fn write_lines<'a>(
+    rt: &impl Print,
     shop: &'a [u16],
     order: &'a [u16],
     trace: &[u16],
@@ -57,7 +58,7 @@ fn write_lines<'a>(
                     place: place,
                 };
                 let told = take_step(shop, order, tables, &mut atoms, &mut waiting, step);
-                is_empty = write_told(told, is_empty);
+                is_empty = write_told(rt, told, is_empty);
                 at = onward.row;
             }
             TraceRow::End => {
@@ -67,24 +68,30 @@ fn write_lines<'a>(
     }
 }
 
-fn write_accepted<'a>(shop: &'a [u16], order: &'a [u16], trace: &[u16])
+fn write_accepted<'a>(rt: &impl Print, shop: &'a [u16], order: &'a [u16], trace: &[u16])
     requires { IsAccepted shop.now order.now trace.now }
 {
     let start = Start::of(shop, order);
     let tables = start.tables;
-    let is_empty = write_lines(shop, order, trace, &tables, start.problem);
-    room::write_none(is_empty);
+    let is_empty = write_lines(rt, shop, order, trace, &tables, start.problem);
+    room::write_none(rt, is_empty);
 }
 
 // The replay comes first, so nothing is told of a trace that is refused.
-pub fn write<'a>(shop: &'a [u16], order: &'a [u16], trace: &[u16], room: &mut [u16]) {
-    line::text(b":");
+pub fn write<'a>(
+    rt: &impl Print,
+    shop: &'a [u16],
+    order: &'a [u16],
+    trace: &[u16],
+    room: &mut [u16],
+) {
+    line::text(rt, b":");
     let answer = replay(shop, order, trace, room);
     let refusal = answer.refusal;
     if refusal.number == 0 {
-        write_accepted(shop, order, trace);
+        write_accepted(rt, shop, order, trace);
     } else {
-        replayed::write_numbers(answer);
+        replayed::write_numbers(rt, answer);
     }
-    line::text(b"\n");
+    line::text(rt, b"\n");
 }

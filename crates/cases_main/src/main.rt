@@ -4,6 +4,8 @@
 // `relevance: NAME; EFFECTS | WANTED`. The top of `stdin` says it at length.
 #![tactic(auto)]
 
+ghost use Rattle.std.specs.Prelude.{◌≤◌, length};
+
 mod call;
 mod case;
 mod joined;
@@ -19,7 +21,7 @@ mod start;
 mod stepping;
 mod text;
 
-use libc::STDIN_FILENO;
+use std::io::{ErrorKind, Input, Read};
 use text::{between, find};
 
 // The bytes of the longest input, of the newline before it, and one more.
@@ -31,7 +33,7 @@ fn line_at(text: &[u8], newline: usize) -> &[u8] {
 }
 
 // The lines of a text that begins with a newline.
-fn run_lines(text: &[u8]) {
+fn run_lines(rt: &impl Print, text: &[u8]) {
     // The newline before the last `with` line; at first there is none.
     let mut with = text.len();
     let mut at = 0;
@@ -40,29 +42,62 @@ fn run_lines(text: &[u8]) {
         if case::has_sheets(line) {
             with = at;
         }
-        case::run_line(line_at(text, with), line);
+        case::run_line(rt, line_at(text, with), line);
         at = find(text, at, b'\n');
     }
 }
 
+// Reads until the room is full, the input ends or a read fails, and answers how many bytes came; a read that a signal interrupts is made again. A
+// proved loop has to end, so the turns are counted down from a number that no run uses up.
+fn read_full<R: Read>(reader: &mut R, room: &mut [u8]) -> usize
+    ensures { result ≤ length room.new }
+{
+    let mut count = 0;
+    let mut turns = u64::MAX;
+    while turns > 0 {
+        turns -= 1;
+        if room.len() <= count {
+            return count;
+        }
+        match reader.read(&mut room[count..]) {
+            Ok(more) => {
+                if more == 0 {
+                    return count;
+                }
+                count += more;
+            }
+            Err(error) => {
+                if error.kind() != ErrorKind::Interrupted {
+                    return count;
+                }
+            }
+        }
+    }
+    count
+}
+
 // Reads the input behind the newline before it, and runs its lines. What leaves no byte free may be the front of more: none of it is
 // run.
-fn run_input(input: &mut [u8]) {
+fn run_input(rt: &(impl Input + Print), input: &mut [u8]) {
     if 0 < input.len() {
-        let count = io::read_full(STDIN_FILENO, &mut input[1..]);
+        let mut reader = rt.reader();
+        let count = read_full(&mut reader, &mut input[1..]);
         if count < input.len() {
             let end = count + 1;
             if end < input.len() {
-                run_lines(&input[0..end]);
+                run_lines(rt, &input[0..end]);
                 return;
             }
         }
-        line::text(b"too long: the input has more bytes than the case program takes\n");
+        line::text(
+            rt,
+            b"too long: the input has more bytes than the case program takes\n",
+        );
     }
 }
 
 // A newline stands first, so that the first line has one before it, as the others have.
-fn main() {
+fn main(rt: HostRuntime) {
     let mut input = [b'\n'; MOST_BYTES];
-    run_input(&mut input);
+    run_input(&rt, &mut input);
 }

@@ -171,25 +171,25 @@ fn tag_of(signs: LiteralTags, sign: bool) -> u16
     signs.negative
 }
 
-fn write_effect(signs: LiteralTags, effect: Literal) {
+fn write_effect(rt: &impl Print, signs: LiteralTags, effect: Literal) {
     let atom = effect.atom;
-    line::number(tag_of(signs, effect.sign) as u64);
-    line::number(atom.0 as u64);
+    line::number(rt, tag_of(signs, effect.sign) as u64);
+    line::number(rt, atom.0 as u64);
 }
 
-pub fn write(told: Told) {
+pub fn write(rt: &impl Print, told: Told) {
     let signs = told.signs;
     let relevance = told.relevance;
     match relevance {
         Relevance::Blocked(effect) => {
-            line::text(b": blocked");
-            write_effect(signs, effect);
+            line::text(rt, b": blocked");
+            write_effect(rt, signs, effect);
         }
         Relevance::Helping(effect) => {
-            line::text(b": helping");
-            write_effect(signs, effect);
+            line::text(rt, b": helping");
+            write_effect(rt, signs, effect);
         }
-        Relevance::Neither => line::text(b": neither"),
+        Relevance::Neither => line::text(rt, b": neither"),
     }
-    line::text(b"\n");
+    line::text(rt, b"\n");
 }

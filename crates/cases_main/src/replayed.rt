@@ -27,54 +27,60 @@ fn next_out(atoms: &[bool], from: Atom) -> Atom
 }
 
 // Neighbouring atoms, from the first to the last.
-fn write_atoms(first: Atom, last: Atom) {
-    line::number(first.0 as u64);
+fn write_atoms(rt: &impl Print, first: Atom, last: Atom) {
+    line::number(rt, first.0 as u64);
     if first.0 < last.0 {
-        line::text(b" to");
-        line::number(last.0 as u64);
+        line::text(rt, b" to");
+        line::number(rt, last.0 as u64);
     }
 }
 
-fn write_state(atoms: [bool; Shop::MOST_ATOMS as usize]) {
-    line::text(b"; state");
+fn write_state(rt: &impl Print, atoms: [bool; Shop::MOST_ATOMS as usize]) {
+    line::text(rt, b"; state");
     let mut is_empty = true;
     let mut at: u16 = 0;
     while at < Shop::MOST_ATOMS {
         let out = next_out(&atoms, Atom(at));
         if at < out.0 {
-            write_atoms(Atom(at), Atom(out.0 - 1));
+            write_atoms(rt, Atom(at), Atom(out.0 - 1));
             is_empty = false;
         }
         at = out.0 + 1;
     }
-    room::write_none(is_empty);
+    room::write_none(rt, is_empty);
 }
 
 // The five numbers of an answer.
-pub fn write_numbers(answer: Answer) {
-    line::refusal(answer.refusal);
-    line::number(answer.count as u64);
-    line::number(answer.cost as u64);
-    line::number(answer.atom as u64);
+pub fn write_numbers(rt: &impl Print, answer: Answer) {
+    line::refusal(rt, answer.refusal);
+    line::number(rt, answer.count as u64);
+    line::number(rt, answer.cost as u64);
+    line::number(rt, answer.atom as u64);
 }
 
-fn write_answer(answer: Answer, room: &[u16]) {
-    line::text(b":");
-    write_numbers(answer);
+fn write_answer(rt: &impl Print, answer: Answer, room: &[u16]) {
+    line::text(rt, b":");
+    write_numbers(rt, answer);
     let state = answer.state;
     let atoms = state.atoms;
-    write_state(atoms);
+    write_state(rt, atoms);
     let count = answer.count as usize;
-    line::text(b"; plan");
-    room::write_list(front_words(room, count));
-    room::write_rest(room, count);
-    line::text(b"\n");
+    line::text(rt, b"; plan");
+    room::write_list(rt, front_words(room, count));
+    room::write_rest(rt, room, count);
+    line::text(rt, b"\n");
 }
 
 // The answer is written, and the room is left as the replay leaves it.
-pub fn write<'a>(shop: &'a [u16], order: &'a [u16], trace: &[u16], room: &mut [u16])
+pub fn write<'a>(
+    rt: &impl Print,
+    shop: &'a [u16],
+    order: &'a [u16],
+    trace: &[u16],
+    room: &mut [u16],
+)
     ensures { room.new ≡ (Replay.replay shop.now order.now trace.now room.old).room }
 {
     let answer = replay(shop, order, trace, room);
-    write_answer(answer, room);
+    write_answer(rt, answer, room);
 }

@@ -51,13 +51,13 @@ fn changed(room: &[u16], from: usize) -> usize {
     at
 }
 
-pub fn write_rest(room: &[u16], from: usize) {
+pub fn write_rest(rt: &impl Print, room: &[u16], from: usize) {
     let at = changed(room, from);
     if at < room.len() {
-        line::text(b"; rest changed");
-        line::number(at as u64);
+        line::text(rt, b"; rest changed");
+        line::number(rt, at as u64);
     } else {
-        line::text(b"; rest kept");
+        line::text(rt, b"; rest kept");
     }
 }
 
@@ -78,25 +78,25 @@ fn end_of_words(words: &[u16], from: usize) -> usize
 }
 
 // A word several times, as the cases write it: `3(7)`.
-fn write_words(value: u16, times: usize) {
+fn write_words(rt: &impl Print, value: u16, times: usize) {
     if times == 1 {
-        line::number(value as u64);
+        line::number(rt, value as u64);
     } else {
-        line::number(times as u64);
-        line::text(b"(");
-        line::digits(value as u64);
-        line::text(b")");
+        line::number(rt, times as u64);
+        line::text(rt, b"(");
+        line::digits(rt, value as u64);
+        line::text(rt, b")");
     }
 }
 
-pub fn write_list(words: &[u16]) {
+pub fn write_list(rt: &impl Print, words: &[u16]) {
     let mut at = 0;
     while at < words.len() {
         let end = end_of_words(words, at);
-        write_words(words[at], end - at);
+        write_words(rt, words[at], end - at);
         at = end;
     }
-    write_none(words.len() == 0);
+    write_none(rt, words.len() == 0);
 }
 
 // The words of a room from `from` on, so many, or none where it has fewer.
@@ -109,12 +109,12 @@ fn part(room: &[u16], from: usize, length: usize) -> &[u16] {
     &room[0..0]
 }
 
-pub fn write_part(room: &[u16], from: usize, length: usize) {
-    write_list(part(room, from, length));
+pub fn write_part(rt: &impl Print, room: &[u16], from: usize, length: usize) {
+    write_list(rt, part(room, from, length));
 }
 
-pub fn write_none(is_empty: bool) {
+pub fn write_none(rt: &impl Print, is_empty: bool) {
     if is_empty {
-        line::text(b" none");
+        line::text(rt, b" none");
     }
 }

@@ -8,21 +8,21 @@ use network::goals;
 use network::goals::Goals;
 use network::waiting::{Entry, Place};
 
-fn write_source(goal: Entry) {
+fn write_source(rt: &impl Print, goal: Entry) {
     let name = goal.name;
-    line::number(method_of(goal) as u64);
-    line::number(name.origin as u64);
+    line::number(rt, method_of(goal) as u64);
+    line::number(rt, name.origin as u64);
 }
 
-pub fn write(waiting: &[u16; Goals::WORDS])
+pub fn write(rt: &impl Print, waiting: &[u16; Goals::WORDS])
     requires { Within waiting.now }
 {
     let count = goals::count_of(waiting);
     let mut at: u16 = 0;
     while at < count {
-        line::comma(at == 0);
-        write_source(goals::entry_at(waiting, Place(at)));
+        line::comma(rt, at == 0);
+        write_source(rt, goals::entry_at(waiting, Place(at)));
         at += 1;
     }
-    room::write_none(count == 0);
+    room::write_none(rt, count == 0);
 }

@@ -31,28 +31,28 @@ pub enum View {
 }
 
 // An atom that a step names; the number that stands for none is not written.
-fn write_named(atom: u16) {
+fn write_named(rt: &impl Print, atom: u16) {
     if atom != atoms::NO_ATOM {
-        line::number(atom as u64);
+        line::number(rt, atom as u64);
     }
 }
 
-fn write_shown(shown: Stepped) {
+fn write_shown(rt: &impl Print, shown: Stepped) {
     let failure = shown.failure;
     let refusal = failure.refusal;
     let problem = shown.problem;
     let waiting = problem.waiting;
-    line::number(refusal.number as u64);
-    line::number(goals::count_of(&waiting) as u64);
-    write_named(failure.atom);
+    line::number(rt, refusal.number as u64);
+    line::number(rt, goals::count_of(&waiting) as u64);
+    write_named(rt, failure.atom);
 }
 
-fn write_refused(shown: Stepped) {
+fn write_refused(rt: &impl Print, shown: Stepped) {
     let failure = shown.failure;
     let refusal = failure.refusal;
     if refusal.number != 0 {
-        write_shown(shown);
-        line::text(b";");
+        write_shown(rt, shown);
+        line::text(rt, b";");
     }
 }
 
@@ -68,31 +68,32 @@ fn next_number(number: u16, answer: u16) -> u16
 }
 
 impl View {
-    fn write_step(self, is_first: bool, shown: Stepped) {
+    fn write_step(self, rt: &impl Print, is_first: bool, shown: Stepped) {
         match self {
             View::Steps => {
-                line::comma(is_first);
-                write_shown(shown);
+                line::comma(rt, is_first);
+                write_shown(rt, shown);
             }
-            View::Goals => write_refused(shown),
+            View::Goals => write_refused(rt, shown),
         }
     }
 
     // What is written of the record after the last step.
-    fn write_last(self, last: Problem)
+    fn write_last(self, rt: &impl Print, last: Problem)
         requires { Within last.waiting }
     {
         match self {
             View::Steps => {}
             View::Goals => {
                 let waiting = last.waiting;
-                sources::write(&waiting);
+                sources::write(rt, &waiting);
             }
         }
     }
 }
 
 fn write_steps<'a>(
+    rt: &impl Print,
     shop: &'a [u16],
     order: &'a [u16],
     trace: &[u16],
@@ -114,32 +115,32 @@ fn write_steps<'a>(
             place: Place(word(trace, Trace::SIZES + steps + at)),
         };
         let shown = forward::show_step(problem, shop, order, tables, step);
-        view.write_step(at == 0, shown);
+        view.write_step(rt, at == 0, shown);
         at += 1;
         problem = shown.problem;
         let failure = shown.failure;
         let refusal = failure.refusal;
         number = next_number(number, refusal.number);
     }
-    view.write_last(problem);
-    line::text(b"\n");
+    view.write_last(rt, problem);
+    line::text(rt, b"\n");
 }
 
-fn write_checked<'a>(shop: &'a [u16], order: &'a [u16], trace: &[u16], view: View)
+fn write_checked<'a>(rt: &impl Print, shop: &'a [u16], order: &'a [u16], trace: &[u16], view: View)
     requires { check_order shop.now order.now ≡ passed }
 {
     let start = Start::of(shop, order);
     let tables = start.tables;
-    write_steps(shop, order, trace, &tables, start.problem, view);
+    write_steps(rt, shop, order, trace, &tables, start.problem, view);
 }
 
 // The steps of a list, as a trace has them, on sheets that pass; else what their check answers.
-pub fn write<'a>(shop: &'a [u16], order: &'a [u16], trace: &[u16], view: View) {
-    line::text(b":");
+pub fn write<'a>(rt: &impl Print, shop: &'a [u16], order: &'a [u16], trace: &[u16], view: View) {
+    line::text(rt, b":");
     let verdict = check_order(shop, order);
     if verdict.number == 0 {
-        write_checked(shop, order, trace, view);
+        write_checked(rt, shop, order, trace, view);
     } else {
-        line::verdict(verdict);
+        line::verdict(rt, verdict);
     }
 }

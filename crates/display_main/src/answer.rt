@@ -10,13 +10,12 @@ ghost use Rattle.display_main.specs.Shown.{steps_text, shown_text, Writes, FewBy
 
 use crate::moment::put_moment;
 use crate::turn::{TURN_BYTES, take_turn};
-use libc::STDOUT_FILENO;
 use replay::first;
 use sheet_check::check::{check_order, check_trace};
 use sheet_check::rows::Row;
 use sheet_check::sizes::TraceSizes;
 use sheet_files::words::{front, front_words};
-use sheet_files::{file, words};
+use sheet_files::{file, words, written};
 use sheet_index::index::Tables;
 use step::moves::Step;
 use step::problem::Problem;
@@ -29,12 +28,13 @@ pub enum Shown {
     Unwritten,
 }
 
-// A text goes to standard output, behind so many bytes. It is the only function here that writes.
-fn write_out(text: &[u8], before: usize) -> Shown
+// A text goes to standard output, behind so many bytes; where not all of it does, standard error says so. It is the only function here that
+// writes.
+fn write_out(rt: &(impl Print + Eprint), text: &[u8], before: usize) -> Shown
     requires { before + length text.now < 2 ^ 64 }
     ensures { Writes before text.now result }
 {
-    if io::write_all(STDOUT_FILENO, text) {
+    if written::print(rt, b"display", b"the moments", text) {
         return Shown::Bytes(before + text.len());
     }
     Shown::Unwritten
@@ -42,6 +42,7 @@ fn write_out(text: &[u8], before: usize) -> Shown
 
 // The steps of a trace from the first on, up to the last or to the first that is refused, each with the moment after it.
 fn write_steps<'a>(
+    rt: &(impl Print + Eprint),
     room: &mut [u8],
     shop: &'a [u16],
     order: &'a [u16],
@@ -65,7 +66,7 @@ fn write_steps<'a>(
         };
         let step = Step { number, mv, place };
         let turn = take_turn(room, problem, shop, order, tables, step);
-        let Shown::Bytes(more) = write_out(front(room, turn.end), bytes) else {
+        let Shown::Bytes(more) = write_out(rt, front(room, turn.end), bytes) else {
             return Shown::Unwritten;
         };
         bytes = more;
@@ -82,46 +83,56 @@ fn write_steps<'a>(
 }
 
 // The moment before the first step.
-fn write_first(room: &mut [u8], first: Problem) -> Shown
+fn write_first(rt: &(impl Print + Eprint), room: &mut [u8], first: Problem) -> Shown
     requires { Within first.waiting × (moment_bytes ≤ length room.old) }
     ensures few { FewBytes result }
     ensures text { FirstWritten first result }
 {
     let end = put_moment(room, 0, 0, first);
-    write_out(front(room, end), 0)
+    write_out(rt, front(room, end), 0)
 }
 
 // The moments of sheets that pass; of a trace that doesn't, the first alone.
-fn write_moments<'a>(shop: &'a [u16], order: &'a [u16], trace: &[u16]) -> Shown
+fn write_moments<'a>(
+    rt: &(impl Print + Eprint),
+    shop: &'a [u16],
+    order: &'a [u16],
+    trace: &[u16],
+) -> Shown
     requires { check_order shop.now order.now ≡ passed }
     ensures { Writes 0 (shown_text shop.now order.now trace.now) result }
 {
     let mut room = [0u8; TURN_BYTES];
     let mut tables = [0u16; Tables::WORDS];
     let problem = first::prepared(shop, order, &mut tables);
-    let Shown::Bytes(bytes) = write_first(&mut room, problem) else {
+    let Shown::Bytes(bytes) = write_first(rt, &mut room, problem) else {
         return Shown::Unwritten;
     };
     let verdict = check_trace(shop, order, trace);
     if verdict.number == 0 {
-        return write_steps(&mut room, shop, order, trace, &tables, problem, bytes);
+        return write_steps(rt, &mut room, shop, order, trace, &tables, problem, bytes);
     }
     Shown::Bytes(bytes)
 }
 
 // The moments of three sheets; of an order that doesn't pass, nothing.
-fn display_words<'a>(shop: &'a [u16], order: &'a [u16], trace: &[u16]) -> Shown
+fn display_words<'a>(
+    rt: &(impl Print + Eprint),
+    shop: &'a [u16],
+    order: &'a [u16],
+    trace: &[u16],
+) -> Shown
     ensures { Writes 0 (shown_text shop.now order.now trace.now) result }
 {
     let verdict = check_order(shop, order);
     if verdict.number == 0 {
-        return write_moments(shop, order, trace);
+        return write_moments(rt, shop, order, trace);
     }
     Shown::Bytes(0)
 }
 
 // The moments of what three files say.
-pub fn display(shop: &[u8], order: &[u8], trace: &[u8]) -> Shown
+pub fn display(rt: &(impl Print + Eprint), shop: &[u8], order: &[u8], trace: &[u8]) -> Shown
     ensures { Writes 0 (shown_text (shop_words shop.now) (order_words order.now) (trace_words trace.now)) result }
 {
     let mut shop_room = [0u16; file::SHOP_WORDS];
@@ -133,5 +144,5 @@ pub fn display(shop: &[u8], order: &[u8], trace: &[u8]) -> Shown
     let shop_words = front_words(&shop_room, shop_count);
     let order_words = front_words(&order_room, order_count);
     let trace_words = front_words(&trace_room, trace_count);
-    display_words(shop_words, order_words, trace_words)
+    display_words(rt, shop_words, order_words, trace_words)
 }

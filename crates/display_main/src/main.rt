@@ -7,34 +7,28 @@ mod line;
 mod moment;
 mod turn;
 
-use answer::Shown;
 use sheet_files::file;
 use sheet_files::file::Reading;
 use sheet_files::words::front;
 
 // A file that can't be read ends the program with nothing on standard output: its line on standard error is the answer.
-fn main() {
+fn main(rt: HostRuntime) {
     let mut shop = [0u8; file::SHOP_BYTES];
     let mut order = [0u8; file::ORDER_BYTES];
     let mut trace = [0u8; file::TRACE_BYTES];
-    let Reading::Bytes(shop_length) = file::read(b"display", b"shop", &mut shop) else {
+    let Reading::Bytes(shop_length) = file::read(&rt, b"display", b"shop", &mut shop) else {
         return;
     };
-    let Reading::Bytes(order_length) = file::read(b"display", b"order", &mut order) else {
+    let Reading::Bytes(order_length) = file::read(&rt, b"display", b"order", &mut order) else {
         return;
     };
-    let Reading::Bytes(trace_length) = file::read(b"display", b"trace", &mut trace) else {
+    let Reading::Bytes(trace_length) = file::read(&rt, b"display", b"trace", &mut trace) else {
         return;
     };
-    let shown = answer::display(
+    answer::display(
+        &rt,
         front(&shop, shop_length),
         front(&order, order_length),
         front(&trace, trace_length),
     );
-    match shown {
-        Shown::Bytes(_) => {}
-        Shown::Unwritten => {
-            os::fail(b"display: cannot write the moments");
-        }
-    }
 }

@@ -6,55 +6,59 @@ mod answer;
 mod same;
 
 use answer::Answer;
-use libc::STDERR_FILENO;
 use sheet_files::file::Reading;
 use sheet_files::text::Text;
 use sheet_files::words::front;
 use sheet_files::{file, written};
+use std::rt::Files;
 
 // The answer goes to standard output, a joined sheet first into its file. What can't be written, and two shop sheets that differ, have a line on
 // standard error and nothing on standard output.
-fn answer_to(shop: &[u8], other: &[u8], first: &[u8], second: &[u8]) {
+fn answer_to(
+    rt: &(impl Files + Print + Eprint),
+    shop: &[u8],
+    other: &[u8],
+    first: &[u8],
+    second: &[u8],
+) {
     let mut line = [0u8; Text::HEADING_BYTES];
     let mut order = [0u8; answer::FILE_BYTES];
     let answer = answer::write_answer(shop, other, first, second, &mut line, &mut order);
     match answer {
         Answer::OtherShop => {
-            io::write_all(
-                STDERR_FILENO,
-                b"join: the two folders have different shop sheets\n",
-            );
+            let _ = rt.eprintln("join: the two folders have different shop sheets");
         }
         Answer::Refused(end) => {
-            written::print_line(b"join", front(&line, end));
+            written::print_line(rt, b"join", front(&line, end));
         }
         Answer::Joined(end, size) => {
-            if written::write_new(b"join", b"order", front(&order, size)) {
-                written::print_line(b"join", front(&line, end));
+            if written::write_new(rt, b"join", b"order", front(&order, size)) {
+                written::print_line(rt, b"join", front(&line, end));
             }
         }
     }
 }
 
 // A file that can't be read ends the program with nothing on standard output: its line on standard error is the answer.
-fn main() {
+fn main(rt: HostRuntime) {
     let mut shop = [0u8; file::SHOP_BYTES];
     let mut other = [0u8; file::SHOP_BYTES];
     let mut first = [0u8; file::ORDER_BYTES];
     let mut second = [0u8; file::ORDER_BYTES];
-    let Reading::Bytes(shop_length) = file::read(b"join", b"shop", &mut shop) else {
+    let Reading::Bytes(shop_length) = file::read(&rt, b"join", b"shop", &mut shop) else {
         return;
     };
-    let Reading::Bytes(other_length) = file::read(b"join", b"other-shop", &mut other) else {
+    let Reading::Bytes(other_length) = file::read(&rt, b"join", b"other-shop", &mut other) else {
         return;
     };
-    let Reading::Bytes(first_length) = file::read(b"join", b"first", &mut first) else {
+    let Reading::Bytes(first_length) = file::read(&rt, b"join", b"first", &mut first) else {
         return;
     };
-    let Reading::Bytes(second_length) = file::read(b"join", b"second", &mut second) else {
+    let Reading::Bytes(second_length) = file::read(&rt, b"join", b"second", &mut second) else {
         return;
     };
     answer_to(
+        &rt,
         front(&shop, shop_length),
         front(&other, other_length),
         front(&first, first_length),

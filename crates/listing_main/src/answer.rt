@@ -8,8 +8,7 @@ ghost use Rattle.listing_main.specs.Turns.{WritesAll};
 ghost use Rattle.listing_main.specs.Answers.{Judges, Prints};
 
 use crate::piece::PIECE_BYTES;
-use crate::steps::write_steps;
-use libc::STDOUT_FILENO;
+use crate::steps::{write_out, write_steps};
 use replay::call::replay;
 use replay::first;
 use sheet_check::check::Trace;
@@ -58,7 +57,13 @@ fn judge<'a>(shop: &'a [u16], order: &'a [u16], trace: &[u16], room: &mut [u8]) 
 }
 
 // The tree of an accepted trace, from the order's first record on. Answers whether all of it was written.
-fn write_tree<'a>(shop: &'a [u16], order: &'a [u16], trace: &'a [u16], room: &mut [u8]) -> bool
+fn write_tree<'a>(
+    rt: &(impl Print + Eprint),
+    shop: &'a [u16],
+    order: &'a [u16],
+    trace: &'a [u16],
+    room: &mut [u8],
+) -> bool
     requires trace_value { number_to shop.now order.now trace.now ≡ 0 }
     requires piece_bytes_in_bounds { piece_bytes ≤ length room.old }
     ensures { WritesAll shop.now order.now trace.now result }
@@ -67,23 +72,37 @@ fn write_tree<'a>(shop: &'a [u16], order: &'a [u16], trace: &'a [u16], room: &mu
     let problem = first::prepared(shop, order, &mut tables);
     let mut atoms = problem.atoms;
     let mut waiting = problem.waiting;
-    write_steps(shop, order, trace, &tables, &mut atoms, &mut waiting, room)
+    write_steps(
+        rt,
+        shop,
+        order,
+        trace,
+        &tables,
+        &mut atoms,
+        &mut waiting,
+        room,
+    )
 }
 
 // The listing of three sheets goes to standard output.
-fn list_words<'a>(shop: &'a [u16], order: &'a [u16], trace: &'a [u16]) -> Printed
+fn list_words<'a>(
+    rt: &(impl Print + Eprint),
+    shop: &'a [u16],
+    order: &'a [u16],
+    trace: &'a [u16],
+) -> Printed
     ensures { Prints shop.now order.now trace.now result }
 {
     let mut room = [0u8; ROOM_BYTES];
     let verdict = judge(shop, order, trace, &mut room);
     match verdict {
         Verdict::Accepted => {
-            if write_tree(shop, order, trace, &mut room) {
+            if write_tree(rt, shop, order, trace, &mut room) {
                 return Printed::Tree;
             }
         }
         Verdict::Refused(end) => {
-            if io::write_all(STDOUT_FILENO, front(&room, end)) {
+            if write_out(rt, front(&room, end)) {
                 return Printed::Refusal;
             }
         }
@@ -92,7 +111,7 @@ fn list_words<'a>(shop: &'a [u16], order: &'a [u16], trace: &'a [u16]) -> Printe
 }
 
 // The listing of what three files say.
-pub fn list(shop: &[u8], order: &[u8], trace: &[u8]) -> Printed
+pub fn list(rt: &(impl Print + Eprint), shop: &[u8], order: &[u8], trace: &[u8]) -> Printed
     ensures { Prints (shop_words shop.now) (order_words order.now) (trace_words trace.now) result }
 {
     let mut shop_room = [0u16; file::SHOP_WORDS];
@@ -104,5 +123,5 @@ pub fn list(shop: &[u8], order: &[u8], trace: &[u8]) -> Printed
     let shop_words = front_words(&shop_room, shop_count);
     let order_words = front_words(&order_room, order_count);
     let trace_words = front_words(&trace_room, trace_count);
-    list_words(shop_words, order_words, trace_words)
+    list_words(rt, shop_words, order_words, trace_words)
 }

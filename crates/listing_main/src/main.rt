@@ -7,35 +7,28 @@ mod line;
 mod piece;
 mod steps;
 
-use answer::Printed;
 use sheet_files::file;
 use sheet_files::file::Reading;
 use sheet_files::words::front;
 
 // A file that can't be read ends the program with nothing on standard output: its line on standard error is the answer.
-fn main() {
+fn main(rt: HostRuntime) {
     let mut shop = [0u8; file::SHOP_BYTES];
     let mut order = [0u8; file::ORDER_BYTES];
     let mut trace = [0u8; file::TRACE_BYTES];
-    let Reading::Bytes(shop_length) = file::read(b"listing", b"shop", &mut shop) else {
+    let Reading::Bytes(shop_length) = file::read(&rt, b"listing", b"shop", &mut shop) else {
         return;
     };
-    let Reading::Bytes(order_length) = file::read(b"listing", b"order", &mut order) else {
+    let Reading::Bytes(order_length) = file::read(&rt, b"listing", b"order", &mut order) else {
         return;
     };
-    let Reading::Bytes(trace_length) = file::read(b"listing", b"trace", &mut trace) else {
+    let Reading::Bytes(trace_length) = file::read(&rt, b"listing", b"trace", &mut trace) else {
         return;
     };
-    let printed = answer::list(
+    answer::list(
+        &rt,
         front(&shop, shop_length),
         front(&order, order_length),
         front(&trace, trace_length),
     );
-    match printed {
-        Printed::Tree => {}
-        Printed::Refusal => {}
-        Printed::Unwritten => {
-            os::fail(b"listing: cannot write the listing");
-        }
-    }
 }

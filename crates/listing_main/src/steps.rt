@@ -5,12 +5,12 @@ ghost use Rattle.listing_main.specs.Pieces.{piece_bytes};
 ghost use Rattle.listing_main.specs.Turns.{Spaced, Turning, Turned, Beginning, Through};
 
 use crate::piece::{PIECE_BYTES, put_piece};
-use libc::STDOUT_FILENO;
 use listing::lines::take_step;
 use network::goals::Goals;
 use sheet_check::check::Shop;
 use sheet_check::rows::Row;
 use sheet_files::words::front;
+use sheet_files::written;
 use step::moves::Step;
 use trace_reader::reader::{TraceRow, advance, open, read, row};
 
@@ -37,15 +37,20 @@ pub enum Space {
     Unwritten,
 }
 
+// A text goes to standard output. Answers whether all of it did; where not, standard error says so.
+pub fn write_out(rt: &(impl Print + Eprint), text: &[u8]) -> bool {
+    written::print(rt, b"listing", b"the listing", text)
+}
+
 // Space for a largest piece. What the room holds is written out where such a piece would not fit behind it.
-fn make_space(room: &[u8], end: usize) -> Space
+fn make_space(rt: &(impl Print + Eprint), room: &[u8], end: usize) -> Space
     requires { (end ≤ length room.now) × (piece_bytes ≤ length room.now) }
     ensures { Spaced (length room.now) end result }
 {
     if PIECE_BYTES <= room.len() - end {
         return Space::Behind(end);
     }
-    if io::write_all(STDOUT_FILENO, front(room, end)) {
+    if write_out(rt, front(room, end)) {
         return Space::Behind(0);
     }
     Space::Unwritten
@@ -53,6 +58,7 @@ fn make_space(room: &[u8], end: usize) -> Space
 
 // The step is taken, and its piece goes into the room. At the trace's end what the room holds is written out.
 pub fn turn<'a, 'b>(
+    rt: &(impl Print + Eprint),
     shop: &'a [u16],
     order: &'a [u16],
     tables: &'a [u16],
@@ -68,7 +74,7 @@ pub fn turn<'a, 'b>(
     let found = at.step;
     match found {
         TraceRow::Step(mv, place) => {
-            let space = make_space(room, at.end);
+            let space = make_space(rt, room, at.end);
             match space {
                 Space::Behind(end) => {
                     let step = Step {
@@ -93,13 +99,14 @@ pub fn turn<'a, 'b>(
         TraceRow::End => Progress {
             end: at.end,
             more: false,
-            written: io::write_all(STDOUT_FILENO, front(room, at.end)),
+            written: write_out(rt, front(room, at.end)),
         },
     }
 }
 
 // The steps of a trace from the first to the last, each read through the reader. Answers whether the whole text was written.
 pub fn write_steps<'a>(
+    rt: &(impl Print + Eprint),
     shop: &'a [u16],
     order: &'a [u16],
     trace: &'a [u16],
@@ -123,7 +130,7 @@ pub fn write_steps<'a>(
             row: row(reader),
             end: progress.end,
         };
-        progress = turn(shop, order, tables, atoms, waiting, room, at);
+        progress = turn(rt, shop, order, tables, atoms, waiting, room, at);
         advance(&mut reader);
     }
     progress.written

@@ -4,23 +4,22 @@
 
 mod answer;
 
-use libc::STDOUT_FILENO;
-use sheet_files::file;
 use sheet_files::file::Reading;
 use sheet_files::words::front;
+use sheet_files::{file, written};
 
 // A file that can't be read ends the program with nothing on standard output: its line on standard error is the answer.
-fn main() {
+fn main(rt: HostRuntime) {
     let mut shop = [0u8; file::SHOP_BYTES];
     let mut order = [0u8; file::ORDER_BYTES];
     let mut trace = [0u8; file::TRACE_BYTES];
-    let Reading::Bytes(shop_length) = file::read(b"replay", b"shop", &mut shop) else {
+    let Reading::Bytes(shop_length) = file::read(&rt, b"replay", b"shop", &mut shop) else {
         return;
     };
-    let Reading::Bytes(order_length) = file::read(b"replay", b"order", &mut order) else {
+    let Reading::Bytes(order_length) = file::read(&rt, b"replay", b"order", &mut order) else {
         return;
     };
-    let Reading::Bytes(trace_length) = file::read(b"replay", b"trace", &mut trace) else {
+    let Reading::Bytes(trace_length) = file::read(&rt, b"replay", b"trace", &mut trace) else {
         return;
     };
     let mut text = [0u8; answer::MOST_BYTES];
@@ -30,8 +29,5 @@ fn main() {
         front(&trace, trace_length),
         &mut text,
     );
-    if io::write_all(STDOUT_FILENO, front(&text, length)) {
-        return;
-    }
-    os::fail(b"replay: cannot write the answer");
+    written::print_line(&rt, b"replay", front(&text, length));
 }

@@ -1,8 +1,12 @@
 // The two words that the program is started with, the depth and a file's name. DECISIONS 141 says why it is told a name.
 use crate::depth;
 use crate::depth::Depth;
-use libc::STDERR_FILENO;
 use sheet_files::words::front;
+use std::env::FillError;
+use std::rt::Env;
+
+// The bytes of the longest argument that is taken.
+pub const MOST_BYTES: usize = 4096;
 
 // The depth, and how many bytes of the file's name stand in the room; or a failure that has been told.
 #[derive(Clone, Copy)]
@@ -18,39 +22,40 @@ enum Word {
     Unread,
 }
 
-fn tell_two_wanted() {
-    io::write_all(
-        STDERR_FILENO,
-        b"search: two arguments are wanted, the depth and a file's name\n",
-    );
+fn tell_two_wanted(rt: &impl Eprint) {
+    let _ = rt.eprintln("search: two arguments are wanted, the depth and a file's name");
 }
 
-// Only an argument that is in the room whole leaves no error behind, even an empty one.
-fn argument(i: usize, room: &mut [u8]) -> Word {
-    let length = os::arg(i, room);
-    if os::errno() == 0 {
-        return Word::Bytes(length);
+fn argument(rt: &impl Env, i: usize, room: &mut [u8]) -> Word {
+    match rt.arg(i, room) {
+        Ok(length) => Word::Bytes(length),
+        Err(_) => Word::Unread,
     }
-    Word::Unread
+}
+
+// Whether there is such an argument, of any length.
+fn is_present(rt: &impl Env, i: usize) -> bool {
+    let mut room = [0u8; 1];
+    !matches!(rt.arg(i, &mut room), Err(FillError::NotPresent))
 }
 
 // The name goes into the first bytes of the room.
-pub fn ask(name: &mut [u8]) -> Asked {
-    let mut text = io::buffer();
-    let Word::Bytes(text_length) = argument(1, &mut text) else {
-        tell_two_wanted();
+pub fn ask(rt: &(impl Env + Eprint), name: &mut [u8]) -> Asked {
+    let mut text = [0u8; MOST_BYTES];
+    let Word::Bytes(text_length) = argument(rt, 1, &mut text) else {
+        tell_two_wanted(rt);
         return Asked::Wrong;
     };
-    let Word::Bytes(name_length) = argument(2, name) else {
-        tell_two_wanted();
+    let Word::Bytes(name_length) = argument(rt, 2, name) else {
+        tell_two_wanted(rt);
         return Asked::Wrong;
     };
-    if os::arg_count() != 3 {
-        tell_two_wanted();
+    if is_present(rt, 3) {
+        tell_two_wanted(rt);
         return Asked::Wrong;
     }
     let Depth::Is(depth) = depth::depth_of(front(&text, text_length)) else {
-        io::write_all(STDERR_FILENO, b"search: the depth is no number\n");
+        let _ = rt.eprintln("search: the depth is no number");
         return Asked::Wrong;
     };
     Asked::For(depth, name_length)

@@ -13,15 +13,16 @@ use sheet_files::file::Reading;
 use sheet_files::text::Text;
 use sheet_files::words::front;
 use sheet_files::{file, written};
+use std::rt::Files;
 
 // What can't be read or written ends the program with nothing on standard output: its line on standard error is the answer.
-fn run(depth: u32, name: &[u8]) {
+fn run(rt: &(impl Files + Print + Eprint), depth: u32, name: &[u8]) {
     let mut shop = [0u8; file::SHOP_BYTES];
     let mut order = [0u8; file::ORDER_BYTES];
-    let Reading::Bytes(shop_length) = file::read(b"search", b"shop", &mut shop) else {
+    let Reading::Bytes(shop_length) = file::read(rt, b"search", b"shop", &mut shop) else {
         return;
     };
-    let Reading::Bytes(order_length) = file::read(b"search", b"order", &mut order) else {
+    let Reading::Bytes(order_length) = file::read(rt, b"search", b"order", &mut order) else {
         return;
     };
     let mut line = [0u8; Text::HEADING_BYTES];
@@ -35,20 +36,20 @@ fn run(depth: u32, name: &[u8]) {
     );
     match answer {
         Answer::Refused(end) => {
-            written::print_line(b"search", front(&line, end));
+            written::print_line(rt, b"search", front(&line, end));
         }
         Answer::Found(end, size) => {
-            if written::replace(b"search", b"trace", name, front(&trace, size)) {
-                written::print_line(b"search", front(&line, end));
+            if written::replace(rt, b"search", b"trace", name, front(&trace, size)) {
+                written::print_line(rt, b"search", front(&line, end));
             }
         }
     }
 }
 
-fn main() {
-    let mut name = io::buffer();
-    let Asked::For(depth, length) = asked::ask(&mut name) else {
+fn main(rt: HostRuntime) {
+    let mut name = [0u8; asked::MOST_BYTES];
+    let Asked::For(depth, length) = asked::ask(&rt, &mut name) else {
         return;
     };
-    run(depth, front(&name, length));
+    run(&rt, depth, front(&name, length));
 }
