@@ -1,0 +1,16 @@
+-- What was found and what the rows from `i` on have come to all. Assumes nothing.
+use Prim.Native.Nat.{◌+◌, ◌-◌, ◌≤◌}
+use mathlib.Core.Path.{◌≡◌}
+use mathlib.Core.List.{zip_with}
+use lib.ListN.{drop}
+use Rattle.hgn.specs.Rows.{row, values_tagged}
+use Rattle.network.specs.Pending.{occurrences}
+use Rattle.network.proofs.listed.occurrences_of.Given as goal
+
+abbrev pub invariant-loop-i : goal.invariant-loop-i
+invariant-loop-i l =
+    (occurrences l.number (values_tagged 11 (zip_with row l.tags l.values)) ≡ l.found + occurrences l.number (values_tagged 11 (drop l.i (zip_with row l.tags l.values))))
+    × (l.found ≤ l.i)
+
+abbrev pub decreases-loop-i : goal.decreases-loop-i
+decreases-loop-i l = l.n - l.i
