@@ -1,6 +1,6 @@
 -- A run's steps as its trace has them, what an action costs by the words of its sheet, and how a run goes on and ends by what its
 -- steps come to. Assumes nothing.
-use Prim.Native.Nat.{ℕ, ◌+◌, ◌-◌, ◌<◌, ◌≤◌}
+use Prim.Native.Nat.{ℕ, ◌+◌, ◌<◌, ◌≤◌}
 use native.Mathlib.Omega.{arith}
 use native.Mathlib.Nat.{add-zero}
 use mathlib.Core.Path.{◌≡◌, refl, sym, ap, ap₂, ◌∙◌}
@@ -18,7 +18,6 @@ use Rattle.hgn.specs.Replay.{rules_of, refusal, acceptance, reported}
 use Rattle.sheet_check.proofs.Lookup.{length_zip_with, get_or_zip_with, length_part, get_d_part}
 use Rattle.sheet_index.proofs.Spans.{by_test}
 use Rattle.replay.specs.Answers.{run_answer, end_answer}
-use Rattle.step.specs.declared.problem.Problem.{Problem}
 use Rattle.replay.proofs.Running.{prepend_all, prepended_stopped, prepended_accepted, Running, running_next, running_stop, running_end}
 
 -- The steps of a trace that is long enough for them.
