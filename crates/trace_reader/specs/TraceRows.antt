@@ -5,7 +5,6 @@ use Rattle.std.proofs.Math.ListN.{get_elem?}
 use Rattle.hgn.specs.Run.{Step}
 use Rattle.hgn.specs.Trace.{steps_of}
 use Rattle.trace_reader.specs.declared.reader.TraceRow.{TraceRow}
-use Rattle.trace_reader.specs.declared.reader.TraceRow.TheVariants as TraceRow
 
 -- The step of this number, from 0; none past the last. Of any words: a trace that has fewer than its size tells has fewer steps.
 unfoldable pub row_at : List ℕ → ℕ → Option Step

@@ -1,5 +1,5 @@
 // A trace held open, and thin functions over it. Document 02, Req 03; document 01, "What shape each place takes". The work is `step_at`'s,
-// which takes a plain slice and a row. The thin functions hold the struct with the reference, and each is proved by a walk of its MIR.
+// which takes a plain slice and a row. The thin functions hold the struct with the reference.
 ghost use Rattle.std.specs.Prelude.{◌≡◌, ◌+◌, ◌<◌, ◌^◌};
 ghost use Rattle.trace_reader.specs.TraceRows.{row_at, step_of};
 
