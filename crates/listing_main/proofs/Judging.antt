@@ -7,7 +7,7 @@ use Rattle.hgn.specs.Questions.{passed}
 use Rattle.hgn.specs.Order.{check_order}
 use Rattle.hgn.specs.Replay.{Replayed}
 use Rattle.hgn.proofs.Sheets.Checked.{order_of_trace}
-use Rattle.sheet_files.specs.Texts.{heading, heading_of}
+use Rattle.sheet_files.specs.Texts.{heading_of}
 use Rattle.listing_main.specs.Listed.{answer_to, number_to, listing}
 use Rattle.listing_main.specs.Answers.{Judges, Prints}
 use Rattle.listing_main.specs.declared.answer.Verdict.{Verdict}

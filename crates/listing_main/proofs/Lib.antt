@@ -5,5 +5,5 @@ pub mod Ahead
 pub mod Lists
 pub mod FirstAhead
 pub mod Judging
-pub mod Again
 pub mod TurnLaws
+pub mod TurnsSoFar

@@ -13,13 +13,13 @@ digits_up_to : ℕ → ℕ → List ℕ
 digits_up_to k n = last_digits (digit_count k n) n
 
 one : (k n : ℕ) → n < 10 → digits_up_to (suc k) n ≡ (48 + n) ∷ []
-unfolding digits_up_to digit_count last_digits
+unfolding digits_up_to digit_count
 one k n h =
     let e : n % 10 ≡ n = omega arith in
     rw (lt-ltb n 10 h, e)
 
 more : (k n : ℕ) → 10 ≤ n → digits_up_to (suc k) n ≡ digits_up_to k (n / 10) ++ ((48 + n % 10) ∷ [])
-unfolding digits_up_to digit_count last_digits
+unfolding digits_up_to digit_count
 more k n h = rw (le-ltb n 10 h)
 
 -- Every 64-bit number has no more digits than a text has room for.

@@ -15,7 +15,7 @@ digit_count zero n = 0
 digit_count (suc k) n = cond (ltb n 10) 1 (suc (digit_count k (n / 10)))
 
 -- So many of a number's last decimal digits, in ASCII, the last of all behind the others.
-unfoldable pub last_digits : ℕ → ℕ → List ℕ
+abbrev pub last_digits : ℕ → ℕ → List ℕ
 last_digits zero n = []
 last_digits (suc k) n = last_digits k (n / 10) ++ ((48 + n % 10) ∷ [])
 
