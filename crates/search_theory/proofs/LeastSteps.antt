@@ -67,6 +67,7 @@ module _ (d : Domain) where
         omega (arith, r.1),
         λ x i o. ⊎_elim (λ q. Memᴰ.head q) (λ j. Memᴰ.tail (r.2 x j o)) (Memᴰ.cases_cons i),
       )
+  without {m = m} [] x' = elim x' [ ]
 
   -- Different moves weigh at most as much as a list that has them all.
   steps_at_most : (ms ys : List Move) → Different ms → ((m : Move) → Memᴰ m ms → Memᴰ m ys) → steps_of_moves d ms ≤ steps_of_moves d ys
