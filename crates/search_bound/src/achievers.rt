@@ -15,7 +15,13 @@ use sheet_index::index::Part;
 use sheet_index::operators;
 use sheet_rows::position::Atom;
 use sheet_rows::tag;
-use state::literals::Literal;
+
+// An atom and its sign: the literal holds where the atom is in (true) or out (false).
+#[derive(Clone, Copy)]
+pub struct Literal {
+    pub atom: Atom,
+    pub sign: bool,
+}
 
 // Stands where several actions achieve a literal: no action has this number.
 pub const MANY: u16 = 65535;

@@ -17,6 +17,7 @@ ghost use Rattle.search_theory.specs.Pruned.{pruned_of};
 ghost use Rattle.search_bound.specs.Tables.{OnlyAchievers, OperatorOf};
 ghost use Rattle.search_bound.specs.NeededMoves.{Holds, move_of_operator, Wanted, WantedAll, WantedFormula, WithAchievers, WithGoals, Onward, OnwardFrom};
 
+use crate::achievers::Literal;
 use crate::needed_moves::NeededMoves;
 use crate::{achievers, needed_moves, relevance};
 use network::goals;
@@ -29,8 +30,14 @@ use sheet_index::index::Span;
 use sheet_index::{index, operators};
 use sheet_rows::position::Atom;
 use sheet_rows::tag;
-use state::literals::{Literal, LiteralTags};
 use state::{atoms, part};
+
+// The two tags of the rows that have a literal, one tag for each sign.
+#[derive(Clone, Copy)]
+pub struct LiteralTags {
+    pub positive: u16,
+    pub negative: u16,
+}
 
 // The only action that achieves a literal is added, if the literal does not hold. Where no action achieves it, no trace is accepted.
 fn add_achiever(
