@@ -35,14 +35,18 @@ choose() {
     (cd -P -- "$folder") 2>/dev/null || fail "cannot enter the folder '$1'"
 }
 
-# build NAME...: has rt prove and build these programs where that is still to be done. Then `$root/target/bin/NAME_main` is the program.
+# program_at NAME: where rt leaves this program, and whether or not it has built it yet.
+program_at() { printf '%s' "$root/crates/$1/out/$1"; }
+
+# build NAME...: has rt prove and build the programs NAME_main where that is still to be done. Then each stands where `program_at` says.
 build() {
     command -v rt >/dev/null || fail "rt, the command of the Rattle kit, is not on the PATH"
-    # Where the build can't write, it can't tell whether a program is still what was proved.
-    [ ! -e "$root/target" ] || [ -w "$root/target/log" ] || fail "cannot write to '$root/target'"
     told=no crates=
     for name; do
-        [ -e "$root/target/bin/${name}_main" ] || tell_duration
+        # Where the build can't write, it can't tell whether a program is still what was proved.
+        kept=$root/crates/${name}_main/out
+        [ ! -e "$kept" ] || [ -w "$kept" ] || fail "cannot write to '$kept'"
+        [ -e "$(program_at "${name}_main")" ] || tell_duration
         crates="$crates ${name}_main"
     done
     working | hand_on || fail "the program is not built: what rt said stands above"
@@ -55,37 +59,51 @@ tell_duration() {
     printf '%s: proving and building what is not proved yet; all of it takes about five minutes on two cores\n' "$program" >&2
 }
 
-# Has rt work, and writes what it says, then its status; among this, after every second, a line that says so. What rt says is written line
-# by line, so that none of these stands inside another.
+# Has rt work, crate by crate, and writes what it says, then its status; among this, after every second, a line that says so. What rt says is
+# written line by line, so that none of these stands inside another. rt builds a program only to run it, so each is run once in its own folder,
+# where no sheets are: it reads nothing, writes no file, and what it prints is not handed on.
 working() {
     while sleep 1 && echo "$program: a second"; do :; done 2>/dev/null &
-    # shellcheck disable=SC2086 # names of crates, apart by blanks
-    { (cd -- "$root" && rt check $crates) 2>&1; echo "$program: rt ended with status $?"; } |
-        while IFS= read -r line; do printf '%s\n' "$line"; done
+    for crate in $crates; do
+        (cd -- "$root/crates/$crate" && rt run </dev/null) 2>&1
+        echo "$program: rt ended with status $?"
+    done | while IFS= read -r line; do printf '%s\n' "$line"; done
 }
 
-# Reads what `working` writes. Of a crate that has not changed rt says so at once: where it says nothing for a second, it is proving one.
-# What it says of a crate stands before the line that says whether the crate is proved, and matters only where it is not.
+# Reads what `working` writes, up to the last crate's end. Of a program that has not changed rt says so at once: where it says nothing for a second,
+# it is proving. What it says of a crate stands before the line that says that the crate is proved, and matters only where it is not. Behind the
+# line that rt runs a program, which it has built then, come what the program prints and its status.
 hand_on() {
-    said='' silent=yes
+    said='' silent=yes is_built=no seconds=0 of=''
+    # shellcheck disable=SC2086 # names of crates, apart by blanks
+    set -- $crates
     while IFS= read -r line; do
-        case $line in
-        "$program: a second")
+        case $is_built,$line in
+        *,"$program: a second")
             [ "$silent" = no ] || tell_duration
             silent=yes
+            seconds=$((seconds + 1))
             continue
             ;;
-        "$program: rt ended with status 0") return 0 ;;
-        "$program: rt ended with status "*) break ;;
-        'rt: '*' proved (unchanged '*) said='' ;;
-        'rt: '*' proved ('*)
+        yes,"$program: rt ended with status "* | *,"$program: rt ended with status 0")
+            said='' is_built=no
+            shift
+            [ $# -gt 0 ] || return 0
+            ;;
+        *,"$program: rt ended with status "*) break ;;
+        yes,*) ;;
+        *,'rt: running out/'*) is_built=yes ;;
+        *,'crate '*': modules loaded='*)
+            of=${line#crate }
+            of=${of%%:*}
+            said="$said$line
+"
+            ;;
+        *,'logic=proved '*)
             said=''
             tell_duration
-            printf '%s\n' "$line" >&2
-            ;;
-        'rt: '*' NOT PROVED'*)
-            printf '%s%s\n' "$said" "$line" >&2
-            said=''
+            printf 'rt: %s proved (%s s)\n' "$of" "$seconds" >&2
+            seconds=0
             ;;
         *) said="$said$line
 " ;;
@@ -118,7 +136,7 @@ clear_away() { :; }
 # replay_trace: replays the trace of `folder`. Then `answer` is what the program printed: five numbers, and the plan.
 replay_trace() {
     # A program can't set an exit status, so it is read off what was printed: nothing, where a file could not be read.
-    answer=$(cd -P -- "$folder" && "$root/target/bin/replay_main") || fail "the program ended with status $?"
+    answer=$(cd -P -- "$folder" && "$(program_at replay_main)") || fail "the program ended with status $?"
     [ -n "$answer" ] || exit 2
     check_answer
 }
@@ -132,7 +150,7 @@ check_answer() {
 # run_into FILE PROGRAM: runs a program in `folder`, with what it prints in the file. A program can't set an exit status: what it says on standard
 # error is a failure, and is kept in no file, since the disk may be full.
 run_into() {
-    said=$( (cd -P -- "$folder" && "$root/target/bin/$2") 2>&1 >"$1") || fail "$said${said:+: }the program ended with status $?"
+    said=$( (cd -P -- "$folder" && "$(program_at "$2")") 2>&1 >"$1") || fail "$said${said:+: }the program ended with status $?"
     [ -z "$said" ] || { printf '%s\n' "$said" >&2; exit 2; }
 }
 

@@ -70,10 +70,16 @@ check_usage() {
     [ "$status" = 2 ] || wrong "the usage to a full disk: status $status"
 }
 
-# stand_in: a copy of the launchers in `$work/bare`, with a stand-in for rt that does there what the file `rt-does` says.
+# program_at NAME: the program of this name, as rt leaves it.
+program_at() { printf '%s' "$PWD/crates/$1/out/$1"; }
+
+programs='replay_main listing_main search_main join_main display_main'
+
+# stand_in: a copy of the launchers in `$work/bare`, with a stand-in for rt that does what the file `rt-does` says in each program's folder.
 stand_in() {
     mkdir "$work/bare" "$work/bin"
     cp -R replay listing search join sheet launch.sh text "$work/bare/"
+    for name in $programs; do mkdir -p "$work/bare/crates/$name"; done
     printf '#!/bin/sh\n. "%s/rt-does"\n' "$work" >"$work/bin/rt"
     chmod +x "$work/bin/rt"
 }
@@ -85,8 +91,7 @@ stand_in_proved() {
     stand_in
     is_proved=yes
     : >"$work/rt-does"
-    mkdir -p "$work/bare/target/log"
-    ln -s "$PWD/target/bin" "$work/bare/target/bin"
+    for name in $programs; do ln -s "$PWD/crates/$name/out" "$work/bare/crates/$name/out"; done
 }
 
 # launch_bare ARGUMENTS: that launcher with that stand-in; leaves `status`, and the outputs in the files `out` and `err`.
