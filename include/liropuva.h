@@ -4,8 +4,8 @@
  *
  * docs/SPECIFICATION.md, section 1, says what the sheets are: in an array all tags stand before all values, all moves before
  * all places. docs/REFUSALS.md has each number that a call can answer; docs/CALLING.md has worked examples. Each call answers
- * what the definitions of crates/hgn/specs say, for every input, refusals too: this is proved of crates/capi/src/lib.rt, where
- * the contracts stand. Any words and any lengths may be passed.
+ * what the definitions of crates/hgn/specs say, for every input, refusals too: this is proved of crates/capi/src/lib.rt and of
+ * crates/capi_c/src/lib.rt, which exports its calls; the contracts stand in both. Any words and any lengths may be passed.
  *
  * What a caller owes, and nothing checks:
  * - A pointer is not null and is aligned for its type, also where its length is 0. Lengths count words, not bytes.
@@ -33,7 +33,7 @@
  * Interface 3: the array `answer` of hgn_replay grew from four words to five, HGN_REPLAY_ANSWER. A caller lends one word more.
  * Interface 4: hgn_join is new. No other call changed, and objects that were compiled with the header of interface 3 link.
  *
- * To link, on x86-64 Linux: `rt staticlib capi` proves the crate and writes target/staticlib/libcapi.a, which needs only
+ * To link, on x86-64 Linux: `tools/build-capi` proves the crate and writes target/staticlib/libcapi.a, which needs only
  * memcpy and memset of the C library:  cc -Iinclude program.c target/staticlib/libcapi.a
  */
 #ifndef LIROPUVA_H

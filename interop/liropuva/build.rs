@@ -14,7 +14,7 @@ fn main() {
     println!("cargo:rerun-if-changed={}", file.display());
     if !file.is_file() {
         eprintln!(
-            "{} is missing: run `rt staticlib capi` at the repository's root, \
+            "{} is missing: run `tools/build-capi` at the repository's root, \
              or set {FOLDER_VARIABLE} to the folder that holds {FILE}",
             file.display()
         );

@@ -1,5 +1,5 @@
-// The six public calls for a caller of C: plain names, and each answer written where the caller lends room for it. Document 01,
-// "Questions". `include/liropuva.h` declares them.
+// The six public calls as a caller of C has them: plain names, and each answer written where the caller lends room for it. Document 01,
+// "Questions". `include/liropuva.h` declares them; the crate `capi_c` exports them under these names.
 #![tactic(auto)]
 
 ghost use Rattle.std.specs.Prelude.{◌≡◌};
@@ -32,8 +32,7 @@ fn bytes_of(atoms: [bool; Shop::MOST_ATOMS as usize]) -> [u8; Shop::MOST_ATOMS a
 }
 
 // Questions 1 to 9.
-#[unsafe(no_mangle)]
-pub extern "C" fn hgn_check_shop(shop: &[u16], answer: &mut [u32; 2])
+pub fn hgn_check_shop(shop: &[u16], answer: &mut [u32; 2])
     ensures { answer.new ≡ refusal_words (answered (check_shop shop.now)) }
 {
     let shop_refusal = check::check_shop(shop);
@@ -41,8 +40,7 @@ pub extern "C" fn hgn_check_shop(shop: &[u16], answer: &mut [u32; 2])
 }
 
 // Questions 1 to 9, then 11 to 18.
-#[unsafe(no_mangle)]
-pub extern "C" fn hgn_check_order(shop: &[u16], order: &[u16], answer: &mut [u32; 2])
+pub fn hgn_check_order(shop: &[u16], order: &[u16], answer: &mut [u32; 2])
     ensures { answer.new ≡ refusal_words (answered (check_order shop.now order.now)) }
 {
     let order_refusal = check::check_order(shop, order);
@@ -50,8 +48,7 @@ pub extern "C" fn hgn_check_order(shop: &[u16], order: &[u16], answer: &mut [u32
 }
 
 // Questions 1 to 9 and 11 to 18, then 21 to 23.
-#[unsafe(no_mangle)]
-pub extern "C" fn hgn_check_trace(shop: &[u16], order: &[u16], trace: &[u16], answer: &mut [u32; 2])
+pub fn hgn_check_trace(shop: &[u16], order: &[u16], trace: &[u16], answer: &mut [u32; 2])
     ensures { answer.new ≡ refusal_words (answered (check_trace shop.now order.now trace.now)) }
 {
     let trace_refusal = check::check_trace(shop, order, trace);
@@ -60,8 +57,7 @@ pub extern "C" fn hgn_check_trace(shop: &[u16], order: &[u16], trace: &[u16], an
 
 // The sheets' questions, then 24 to 33. Accepted, the plan stands in the first words of its room. The header calls it `hgn_replay`, and says
 // when a symbol gets a number.
-#[unsafe(no_mangle)]
-pub extern "C" fn hgn_replay_2<'a>(
+pub fn hgn_replay_2<'a>(
     shop: &'a [u16],
     order: &'a [u16],
     trace: &[u16],
@@ -87,8 +83,7 @@ pub extern "C" fn hgn_replay_2<'a>(
 
 // Questions 1 to 9 and 11 to 18, then 41 to 43. Found, the trace stands in the first 1 + 2L words of the room. The header calls it
 // `hgn_search`, and says when a symbol gets a number.
-#[unsafe(no_mangle)]
-pub extern "C" fn hgn_search_2<'a>(
+pub fn hgn_search_2<'a>(
     shop: &'a [u16],
     order: &'a [u16],
     depth: u32,
@@ -103,8 +98,7 @@ pub extern "C" fn hgn_search_2<'a>(
 
 // Questions 1 to 9, 11 to 18 of the first order, 11 to 18 of the second, then 81 to 83. Written, the joined sheet stands in the first words
 // of the room.
-#[unsafe(no_mangle)]
-pub extern "C" fn hgn_join<'a>(
+pub fn hgn_join<'a>(
     shop: &'a [u16],
     first: &'a [u16],
     second: &'a [u16],

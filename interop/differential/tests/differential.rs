@@ -52,11 +52,10 @@ fn plan_room(random: &mut Random, trace: &[u16]) -> usize {
 /// Several traces on one domain.
 fn traces_case(random: &mut Random, tally: &mut Tally) {
     let (domain, most) = match random.below(100) {
-        0..36 => (Domain::generate(random, Size::Tiny), 12),
-        36..69 => (Domain::generate(random, Size::Small), 40),
-        69..79 => (Domain::generate(random, Size::Bulky), 80),
-        79..87 => (Domain::easy(random), 150),
-        87..92 => (Domain::wide(random, Most::USUAL), 60),
+        0..40 => (Domain::generate(random, Size::Tiny), 12),
+        40..75 => (Domain::generate(random, Size::Small), 40),
+        75..85 => (Domain::generate(random, Size::Bulky), 80),
+        85..93 => (Domain::easy(random), 150),
         _ => (Domain::generate(random, Size::Medium), 150),
     };
     for _ in 0..16 {
@@ -176,10 +175,10 @@ fn about_limits(random: &mut Random, tally: &mut Tally, domain: &Domain, mut tra
 /// Traces of as many steps as there may be, often accepted.
 fn long_case(random: &mut Random, tally: &mut Tally) {
     let size = random.pick(&[Size::Small, Size::Bulky, Size::Medium, Size::Large]);
-    let domain = match random.below(100) {
-        0..30 => Domain::easy(random),
-        30..40 => Domain::wide(random, Most::USUAL),
-        _ => Domain::generate(random, size),
+    let domain = if random.chance(30) {
+        Domain::easy(random)
+    } else {
+        Domain::generate(random, size)
     };
     let mut run = domain.run();
     let habit = Habit {
@@ -417,7 +416,6 @@ fn traces() {
         let count = tally.unmet.of(number, way);
         assert_at_least(&format!("{number}, {way:?}"), count, LEAST_EACH);
     }
-    assert_irrelevant(&tally);
 }
 
 /// Steps were refused for either reason, in each way.
