@@ -6,12 +6,11 @@ use Rattle.network.proofs.Words.{Closing, closing_start, closing_more, closing_d
 use Rattle.network.proofs.goals.close_gap.Goals as goal
 
 pub loop-at-init : goal.loop-at-init
-loop-at-init c =
-    (
-      (λ p e. subst (Closing p _ _) (sym e) (closing_start p _)),
-      omega (arith, c.start_of-end.ensures, c.requires),
-      c.requires.2,
-    )
+loop-at-init c = (
+  (λ p e. subst (Closing p _ _) (sym e) (closing_start p _)),
+  omega (arith, c.start_of-end.ensures, c.requires),
+  c.requires.2,
+)
 
 pub loop-at-preserved : goal.loop-at-preserved
 loop-at-preserved c =

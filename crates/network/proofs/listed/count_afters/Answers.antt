@@ -15,20 +15,18 @@ pub overflow_add-found : goal.overflow_add-found
 overflow_add-found c = omega (arith, c.loop-i.invariant.1)
 
 pub loop-i-preserved-then-tags-row-eq-AFTER : goal.loop-i-preserved-then-tags-row-eq-AFTER
-loop-i-preserved-then-tags-row-eq-AFTER c =
-    (
-      by_row (λ rs. c.loop-i.found + length (values_tagged 11 rs)) _ _ _ _ c.rows-n.ensures c.loop-i.invariant.0 c.loop-i-test.true
-          (counted_after _ _ _ _ c.if-tags-row-eq-AFTER.true),
-      omega (arith, c.loop-i.invariant.1),
-    )
+loop-i-preserved-then-tags-row-eq-AFTER c = (
+  by_row (λ rs. c.loop-i.found + length (values_tagged 11 rs)) _ _ _ _ c.rows-n.ensures c.loop-i.invariant.0 c.loop-i-test.true
+      (counted_after _ _ _ _ c.if-tags-row-eq-AFTER.true),
+  omega (arith, c.loop-i.invariant.1),
+)
 
 pub loop-i-preserved : goal.loop-i-preserved
-loop-i-preserved c =
-    (
-      by_row (λ rs. c.loop-i.found + length (values_tagged 11 rs)) _ _ _ _ c.rows-n.ensures c.loop-i.invariant.0 c.loop-i-test.true
-          (counted_other _ _ _ _ c.if-tags-row-eq-AFTER.false),
-      omega (arith, c.loop-i.invariant.1),
-    )
+loop-i-preserved c = (
+  by_row (λ rs. c.loop-i.found + length (values_tagged 11 rs)) _ _ _ _ c.rows-n.ensures c.loop-i.invariant.0 c.loop-i-test.true
+      (counted_other _ _ _ _ c.if-tags-row-eq-AFTER.false),
+  omega (arith, c.loop-i.invariant.1),
+)
 
 pub returns : goal.returns
 returns c = sym (at_end (λ rs. c.loop-i.found + length (values_tagged 11 rs)) _ _ _ _ c.rows-n.ensures c.loop-i.invariant.0 c.loop-i-test.false (counted_none _))

@@ -13,12 +13,11 @@ returns-then-tag-eq-NODE c =
     c.loop-i.invariant.1 c.if-tag-eq-NODE.true
 
 pub loop-i-preserved : goal.loop-i-preserved
-loop-i-preserved c =
-    (
-      omega arith,
-      begins_later c.args.layout.sizes c.args.layout.rows c.args.order.now c.requires.enough c.loop-i.i (omega arith) c.tag.ensures
-          c.loop-i.invariant.1 c.if-tag-eq-NODE.false,
-    )
+loop-i-preserved c = (
+  omega arith,
+  begins_later c.args.layout.sizes c.args.layout.rows c.args.order.now c.requires.enough c.loop-i.i (omega arith) c.tag.ensures
+      c.loop-i.invariant.1 c.if-tag-eq-NODE.false,
+)
 
 pub returns : goal.returns
 returns c = begins_nowhere c.args.layout.sizes c.args.layout.rows c.args.order.now c.requires.enough c.loop-i.i (omega arith) c.loop-i.invariant.1

@@ -7,12 +7,11 @@ pub loop-i-init : goal.loop-i-init
 loop-i-init c = (omega arith, left_all _ _ _ _ _)
 
 pub loop-i-preserved : goal.loop-i-preserved
-loop-i-preserved c =
-    (
-      omega arith,
-      stands_next _ _ _ _ _ c.args.from.sizes c.args.from.rows c.args.first.now c.requires.1.enough c.loop-i.i (omega arith) c.loop-i.invariant.1
-          c.tag.ensures c.value.ensures c.put.ensures,
-    )
+loop-i-preserved c = (
+  omega arith,
+  stands_next _ _ _ _ _ c.args.from.sizes c.args.from.rows c.args.first.now c.requires.1.enough c.loop-i.i (omega arith) c.loop-i.invariant.1
+      c.tag.ensures c.value.ensures c.put.ensures,
+)
 
 pub returns : goal.returns
 returns c = stands_done _ _ _ _ _ c.args.from.sizes c.args.from.rows c.args.first.now c.requires.1.enough c.loop-i.i (omega arith) c.loop-i.invariant.1

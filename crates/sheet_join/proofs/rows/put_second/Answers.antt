@@ -40,16 +40,16 @@ put_raised-next-requires c =
     c.loop-i.i (omega arith) c.tag.ensures c.value.ensures before in
     let fits-rest : c.loop-i.next + length (raised_row before this) + length (raised before second (c.loop-i.i + 1)) ≤ c.args.into.rows = omega (arith, c.loop-i.invariant.1, ap length this-first ∙ length-append (raised_row before this) _) in
     let row_fits : RowFits c.args.into c.loop-i.next before this c.loop-i.room = record {
-  room_for = record {
-    few_rows = c.requires.room_for.few_rows;
-    enough = omega (arith, c.loop-i.invariant.2.long, c.requires.room_for.enough);
-  };
-  fits = omega (arith, fits-rest);
-  few_before = c.requires.few_before;
-  names_goal =
-      names_goal c.requires.passes.0 _ c.requires.passes.1 c.layout-from.result c.layout-from.ensures.0 rows-sized
-      c.loop-i.i (omega arith) c.tag.ensures c.value.ensures;
-} in
+      room_for = record {
+        few_rows = c.requires.room_for.few_rows;
+        enough = omega (arith, c.loop-i.invariant.2.long, c.requires.room_for.enough);
+      };
+      fits = omega (arith, fits-rest);
+      few_before = c.requires.few_before;
+      names_goal =
+          names_goal c.requires.passes.0 _ c.requires.passes.1 c.layout-from.result c.layout-from.ensures.0 rows-sized
+          c.loop-i.i (omega arith) c.tag.ensures c.value.ensures;
+    } in
     row_fits
 
 pub loop-i-preserved : goal.loop-i-preserved
@@ -61,8 +61,7 @@ loop-i-preserved c =
     let this-first : raised before second c.loop-i.i ≡ raised_row before this ++ raised before second (c.loop-i.i + 1) = raised_rest c.requires.passes.0 _ c.requires.passes.1 c.layout-from.result c.layout-from.ensures.0 rows-sized
     c.loop-i.i (omega arith) c.tag.ensures c.value.ensures before in
     let fits-rest : c.loop-i.next + length (raised_row before this) + length (raised before second (c.loop-i.i + 1)) ≤ c.args.into.rows = omega (arith, c.loop-i.invariant.1, ap length this-first ∙ length-append (raised_row before this) _) in
-    let r = c.put_raised-next in
-    (
+    let r = c.put_raised-next in (
       omega (arith, rows-sized),
       omega (arith, r.ensures.1, fits-rest),
       left_raised _ _ _ _ _ before c.loop-i.next this this-first c.loop-i.invariant.2 r.ensures.0 r.ensures.1,

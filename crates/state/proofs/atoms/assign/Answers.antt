@@ -15,28 +15,25 @@ pub overflow_cast-at : goal.overflow_cast-at
 overflow_cast-at c = omega (arith, c.shared_slice_known-then-tags-row-1.given c.loop-i.i)
 
 pub loop-i-preserved-then-at-atoms : goal.loop-i-preserved-then-at-atoms
-loop-i-preserved-then-at-atoms c =
-    (
-      by_row (assigned_in _ _ _) _ _ _ _ c.rows-n.ensures c.loop-i.invariant.0 c.loop-i-test.true
-          (assigned_first _ _ _ _ _ _ c.if-tags-row.true),
-      search rules,
-    )
+loop-i-preserved-then-at-atoms c = (
+  by_row (assigned_in _ _ _) _ _ _ _ c.rows-n.ensures c.loop-i.invariant.0 c.loop-i-test.true
+      (assigned_first _ _ _ _ _ _ c.if-tags-row.true),
+  search rules,
+)
 
 pub loop-i-preserved-else-at-atoms : goal.loop-i-preserved-else-at-atoms
-loop-i-preserved-else-at-atoms c =
-    (
-      by_row (assigned_in _ _ _) _ _ _ _ c.rows-n.ensures c.loop-i.invariant.0 c.loop-i-test.true
-          (assigned_none _ _ _ _ _ _ c.if-tags-row.true (omega arith)),
-      c.loop-i.invariant.1,
-    )
+loop-i-preserved-else-at-atoms c = (
+  by_row (assigned_in _ _ _) _ _ _ _ c.rows-n.ensures c.loop-i.invariant.0 c.loop-i-test.true
+      (assigned_none _ _ _ _ _ _ c.if-tags-row.true (omega arith)),
+  c.loop-i.invariant.1,
+)
 
 pub loop-i-preserved : goal.loop-i-preserved
-loop-i-preserved c =
-    (
-      by_row (assigned_in _ _ _) _ _ _ _ c.rows-n.ensures c.loop-i.invariant.0 c.loop-i-test.true
-          (assigned_other _ _ _ _ _ _ c.if-tags-row.false),
-      c.loop-i.invariant.1,
-    )
+loop-i-preserved c = (
+  by_row (assigned_in _ _ _) _ _ _ _ c.rows-n.ensures c.loop-i.invariant.0 c.loop-i-test.true
+      (assigned_other _ _ _ _ _ _ c.if-tags-row.false),
+  c.loop-i.invariant.1,
+)
 
 pub shape_of-atoms : goal.shape_of-atoms
 shape_of-atoms c = c.loop-i.invariant.1

@@ -8,12 +8,11 @@ pub loop-i-init : goal.loop-i-init
 loop-i-init c = refl
 
 pub returns-then-tag-eq-ALTERNATIVE : goal.returns-then-tag-eq-ALTERNATIVE
-returns-then-tag-eq-ALTERNATIVE c =
-        (
-      omega (arith, c.rows-n.ensures, c.loop-i-test.true),
-      omega (arith, c.rows-n.ensures, c.loop-i-test.true),
-      cut_here _ _ _ _ c.rows-n.ensures c.loop-i.invariant c.loop-i-test.true c.if-tag-eq-ALTERNATIVE.true,
-    )
+returns-then-tag-eq-ALTERNATIVE c = (
+  omega (arith, c.rows-n.ensures, c.loop-i-test.true),
+  omega (arith, c.rows-n.ensures, c.loop-i-test.true),
+  cut_here _ _ _ _ c.rows-n.ensures c.loop-i.invariant c.loop-i-test.true c.if-tag-eq-ALTERNATIVE.true,
+)
 
 pub loop-i-preserved : goal.loop-i-preserved
 loop-i-preserved c = cut_later _ _ _ _ c.rows-n.ensures c.loop-i.invariant c.loop-i-test.true c.if-tag-eq-ALTERNATIVE.false

@@ -7,9 +7,6 @@ use Rattle.state.proofs.Walks.{row_inside, row_next, row_none}
 use Rattle.state.proofs.Relevances.{told_first, told_on, told_blocked, told_all}
 use Rattle.state.proofs.relevance.walk_effects.Goals as goal
 
-
-
-
 pub loop-i-init : goal.loop-i-init
 loop-i-init c = record { lies = c.requires.0; known = told_first _ _ _ }
 

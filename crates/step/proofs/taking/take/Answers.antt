@@ -22,11 +22,11 @@ apply-requires c =
     let ws : List ℕ = c.args.waiting.now in
     let valid : ValidGoals shop order ws = c.requires.indexed.1.valid in
     let status : StatusIn shop order s c.count_of.result c.status_at-status.result (problem_with shop order s ws) c.args.step.place.0 =
-        status_at shop order s ws valid _ _ c.count_of.ensures c.status_at-status.ensures in
+    status_at shop order s ws valid _ _ c.count_of.ensures c.status_at-status.ensures in
     let decides : Decides c.args.limit shop (problem_with shop order s ws) c.args.step.mv c.args.step.place.0 c.decide-decision.result =
-        c.decide-decision.ensures _ status in
+    c.decide-decision.ensures _ status in
     let takes : (m : Move) → c.decide-decision.result ≡ Allowed m → StepAllowed c.args.limit shop (problem_with shop order s ws) c.args.step.mv c.args.step.place.0 m =
-        λ m e. subst (Decides c.args.limit shop (problem_with shop order s ws) c.args.step.mv c.args.step.place.0) e decides in
+    λ m e. subst (Decides c.args.limit shop (problem_with shop order s ws) c.args.step.mv c.args.step.place.0) e decides in
     let p = c.requires.indexed in
     record {
       indexed = (p.0, p.1, p.2);
@@ -54,9 +54,9 @@ returns-in-Allowed c =
     let ws : List ℕ = c.args.waiting.now in
     let valid : ValidGoals shop order ws = c.requires.indexed.1.valid in
     let status : StatusIn shop order s c.count_of.result c.status_at-status.result (problem_with shop order s ws) c.args.step.place.0 =
-        status_at shop order s ws valid _ _ c.count_of.ensures c.status_at-status.ensures in
+    status_at shop order s ws valid _ _ c.count_of.ensures c.status_at-status.ensures in
     let decides : Decides c.args.limit shop (problem_with shop order s ws) c.args.step.mv c.args.step.place.0 c.decide-decision.result =
-        c.decide-decision.ensures _ status in
+    c.decide-decision.ensures _ status in
     let takes : (m : Move) → c.decide-decision.result ≡ Allowed m → StepAllowed c.args.limit shop (problem_with shop order s ws) c.args.step.mv c.args.step.place.0 m =
-        λ m e. subst (Decides c.args.limit shop (problem_with shop order s ws) c.args.step.mv c.args.step.place.0) e decides in
+    λ m e. subst (Decides c.args.limit shop (problem_with shop order s ws) c.args.step.mv c.args.step.place.0) e decides in
     taken_by _ _ _ _ _ _ (takes _ c.in-Allowed.is) c.apply.ensures
