@@ -32,6 +32,7 @@ use Rattle.search_theory.proofs.Loops.{moves_count, moves_next, moves_end, place
 use Rattle.search.specs.Founds.{steps_from, Covers, Finds}
 use Rattle.search_pruning.specs.Tests.{nth_move, move_number, step_of, crowded}
 use Rattle.search.specs.Trials.{tried, Suffices, Open}
+use Rattle.search.specs.declared.explore.Node.{Node}
 use Rattle.search.specs.declared.found.Found.{Found}
 use Rattle.search.proofs.Trying.{crowded_out, open_few, open_kept, open_none}
 
@@ -62,6 +63,10 @@ pub cannot_tell : (b c : Bool) {r : Bool} → r ≡ cond b (not c) true → r �
 cannot_tell true true e f = (refl, refl)
 cannot_tell true false e f = absurd (false_not_true _ f e)
 cannot_tell false c e f = absurd (false_not_true _ f e)
+
+-- What is found with a step from `P`, where `k` steps may be taken in all. The step before was `node`'s last, from `P₀`.
+abbrev pub found_by : List ℕ → Problem → Problem → Node → ℕ → Step → Option (List Step)
+found_by shop P₀ P node k = tried (k - 1) (rules_of shop) P₀ (step_of node.last) node.number P
 
 -- What a search told.
 module _ {search : ℕ → Option (List Step)} {n left : ℕ} (r : Found) where
