@@ -17,7 +17,7 @@ use Rattle.hgn.specs.Replay.{rules_of}
 use Rattle.sheet_rows.specs.Refusals.{refusal_of}
 use Rattle.sheet_rows.specs.declared.refusal.Refusal.{Refusal}
 use Rattle.step.specs.Steps.{problem_in, Comes}
-use Rattle.step.specs.Taking.{Going, ValidGoals}
+use Rattle.step.specs.Taking.{Going}
 use Rattle.step.specs.declared.problem.Problem.{Problem}
 use Rattle.step.specs.declared.problem.Stepped as Code
 use Rattle.replay.specs.Running.{Prepared}

@@ -1,0 +1,9 @@
+-- The numbers that are read off the words are those of the goal's line. Assumes nothing.
+use lib.ListN.{take}
+use Rattle.display_main.proofs.GoalLines.{goal_is}
+use Rattle.display_main.proofs.moment.put_goal.Goals as goal
+
+pub returns-clause-text : goal.returns-clause-text
+returns-clause-text c =
+    let front = take c.args.at c.args.text.now in
+    goal_is _ _ c.requires.within.0 front c.entry_at-goal.ensures c.is_free.ensures c.word_of-free.ensures c.method_of.ensures c.put_four.ensures.text
