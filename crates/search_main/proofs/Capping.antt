@@ -11,7 +11,7 @@ use Rattle.hgn.specs.Lent.{unwritten}
 use Rattle.hgn.specs.Order.{check_order}
 use Rattle.hgn.specs.Search.{Searched, most_depth, search}
 use Rattle.hgn.proofs.Search.Search.{search_refused, sheets_refused, depth_refused}
-use Rattle.search_main.specs.Depths.{capped, first_too_deep, CapChangesNothing}
+use Rattle.search_main.specs.Depths.{capped, CapChangesNothing}
 
 module _ (shop sheet room : List ℕ) where
   -- The refusal of a sheet, or where the sheets pass that of the depth.

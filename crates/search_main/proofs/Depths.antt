@@ -9,7 +9,7 @@ use mathlib.Core.Option.{Option, none, some, map}
 use lib.Dec.{leb, ltb}
 use lib.ListN.{length, get_or, drop, drop_of_length-le}
 use lib.Seq.{drop-cons}
-use borrow.Author.Tests.{lt-ltb, le-ltb, ltb-false, leb-true}
+use borrow.Author.Tests.{lt-ltb, le-ltb, ltb-false}
 use Rattle.search_main.specs.Depths.{zero_digit, nine_digit, is_digit, digits_behind, number_of, first_too_deep, capped, depth_of}
 
 pub below_is_none : (b : ℕ) → b < zero_digit → false ≡ is_digit b

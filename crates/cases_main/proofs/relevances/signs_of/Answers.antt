@@ -1,0 +1,10 @@
+-- The test is the definition's. Assumes nothing.
+use borrow.Author.Rules.{rules}
+use Rattle.cases_main.proofs.Pairs.{tags_of_goal, tags_of_action}
+use Rattle.cases_main.proofs.relevances.signs_of.Goals as goal
+
+pub returns-then-has_wanted : goal.returns-then-has_wanted
+returns-then-has_wanted c = tags_of_goal _ c.has_wanted.ensures c.if-has_wanted.true
+
+pub returns : goal.returns
+returns c = tags_of_action _ c.has_wanted.ensures c.if-has_wanted.false

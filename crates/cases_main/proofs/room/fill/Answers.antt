@@ -1,0 +1,16 @@
+-- The facts that the loop leaves. Assumes nothing.
+use Prim.Native.Nat.{◌-◌}
+use native.Mathlib.Omega.{arith}
+use borrow.Author.Rules.{rules}
+use lib.ListN.{length}
+use Rattle.cases_main.proofs.Rooms.{Blanked, none_blanked, one_blanked, all_blanked}
+use Rattle.cases_main.proofs.room.fill.Goals as goal
+
+pub loop-at-init : goal.loop-at-init
+loop-at-init c = none_blanked _
+
+pub loop-at-preserved : goal.loop-at-preserved
+loop-at-preserved c = one_blanked _ _ _ c.loop-at.invariant (omega arith) c.blank.ensures
+
+pub returns : goal.returns
+returns c = all_blanked _ _ _ c.loop-at.invariant (omega arith)

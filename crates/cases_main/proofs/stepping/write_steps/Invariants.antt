@@ -1,0 +1,13 @@
+-- `stepping::write_steps` is safe and ends: the steps that were taken have led to the record, and no more are counted than there are. Assumes nothing.
+use Prim.Native.Nat.{◌-◌, ◌≤◌}
+use mir.Syntax.{w16}
+use mir.Val.{Fits}
+use Rattle.step.specs.Taking.{Going}
+use Rattle.cases_main.proofs.stepping.write_steps.Given as goal
+
+abbrev pub invariant-loop-at : goal.invariant-loop-at
+invariant-loop-at l =
+    Going l.rt l.shop l.number l.problem.atoms l.problem.waiting × (l.number ≤ l.at) × (l.at ≤ l.view) × Fits w16 l.view
+
+abbrev pub decreases-loop-at : goal.decreases-loop-at
+decreases-loop-at l = l.view - l.at
