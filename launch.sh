@@ -70,19 +70,18 @@ working() {
     done | while IFS= read -r line; do printf '%s\n' "$line"; done
 }
 
-# Reads what `working` writes, up to the last crate's end. Of a program that has not changed rt says so at once: where it says nothing for a second,
-# it is proving. What it says of a crate stands before the line that says that the crate is proved, and matters only where it is not. Behind the
+# Reads what `working` writes, up to the last crate's end. Of a program that has not changed rt says so at once: where it says anything else, or nothing
+# for three seconds, it is proving. What it says of a crate stands before the line that says that the crate is proved, and matters only where it is not. Behind the
 # line that rt runs a program, which it has built then, come what the program prints and its status.
 hand_on() {
-    said='' silent=yes is_built=no seconds=0 of=''
+    said='' silent=0 is_built=no seconds=0 of=''
     # shellcheck disable=SC2086 # names of crates, apart by blanks
     set -- $crates
     while IFS= read -r line; do
         case $is_built,$line in
         *,"$program: a second")
-            [ "$silent" = no ] || tell_duration
-            silent=yes
-            seconds=$((seconds + 1))
+            seconds=$((seconds + 1)) silent=$((silent + 1))
+            [ "$silent" -lt 3 ] || tell_duration
             continue
             ;;
         yes,"$program: rt ended with status "* | *,"$program: rt ended with status 0")
@@ -93,22 +92,27 @@ hand_on() {
         *,"$program: rt ended with status "*) break ;;
         yes,*) ;;
         *,'rt: running out/'*) is_built=yes ;;
+        *,'rt: nothing has changed since the last proved build'*) ;;
         *,'crate '*': modules loaded='*)
+            tell_duration
             of=${line#crate }
             of=${of%%:*}
             said="$said$line
 "
             ;;
         *,'logic=proved '*)
-            said=''
             tell_duration
+            said=''
             printf 'rt: %s proved (%s s)\n' "$of" "$seconds" >&2
             seconds=0
             ;;
-        *) said="$said$line
-" ;;
+        *)
+            tell_duration
+            said="$said$line
+"
+            ;;
         esac
-        silent=no
+        silent=0
     done
     printf '%s' "$said" >&2
     return 1
