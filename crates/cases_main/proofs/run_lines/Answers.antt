@@ -1,9 +1,6 @@
 -- `run_lines` is safe and ends: each turn goes on to a later newline, or to the end. Assumes nothing.
-use Prim.Native.Nat.{◌-◌}
 use native.Mathlib.Omega.{arith}
-use borrow.Author.Rules.{rules}
-use lib.ListN.{length}
 use Rattle.cases_main.proofs.run_lines.Goals as goal
 
 pub loop-at-smaller : goal.loop-at-smaller
-loop-at-smaller c = omega (arith, c.find-at.ensures (omega arith))
+loop-at-smaller g c = omega (arith, c.find-at.ensures (omega arith))

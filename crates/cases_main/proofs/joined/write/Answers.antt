@@ -2,9 +2,8 @@
 use mathlib.Core.Path.{ap}
 use mathlib.Core.List.{List}
 use Prim.Native.Nat.{ℕ}
-use borrow.Author.Rules.{rules}
 use Rattle.hgn.specs.Lent.{Lent}
 use Rattle.cases_main.proofs.joined.write.Goals as goal
 
 pub returns : goal.returns
-returns c = ap (λ (r : Lent (List ℕ)). r.room) c.join-answer.ensures
+returns g c = ap (λ (r : Lent (List ℕ)). r.room) c.join-answer.ensures

@@ -1,27 +1,24 @@
 -- Each step of the trace is taken, and the steps behind it are accepted from what it leaves (`Ahead`). Assumes nothing.
-use Prim.Native.Nat.{ℕ, ◌-◌}
+use Prim.Native.Nat.{ℕ}
 use native.Mathlib.Omega.{arith}
 use mathlib.Core.Path.{◌≡◌, sym, ap, ◌∙◌}
 use mathlib.Core.List.{List}
 use mathlib.Core.Option.{some}
-use lib.ListN.{length}
-use borrow.Author.Rules.{rules}
 use Rattle.hgn.specs.Run.{Step}
-use Rattle.hgn.specs.Trace.{steps_of}
 use Rattle.trace_reader.specs.TraceRows.{row_at, step_of}
 use Rattle.cases_main.proofs.Accepted.{Ahead, all_ahead, row_inside, ahead_on}
 use Rattle.cases_main.proofs.listed.write_lines.Goals as goal
 
 pub loop-mv-init : goal.loop-mv-init
-loop-mv-init c =
+loop-mv-init g c =
     let p = c.requires in
     all_ahead _ _ _ _ _ p.0 p.1
 
 pub next-onward-requires : goal.next-onward-requires
-next-onward-requires c = omega (arith, c.loop-mv.invariant.inside, c.loop-mv.invariant.few)
+next-onward-requires g c = omega (arith, c.loop-mv.invariant.inside, c.loop-mv.invariant.few)
 
 pub take_step-told-requires : goal.take_step-told-requires
-take_step-told-requires c =
+take_step-told-requires g c =
     let shop : List ℕ = c.args.shop.now in
     let order : List ℕ = c.args.order.now in
     let trace : List ℕ = c.args.trace.now in
@@ -30,7 +27,7 @@ take_step-told-requires c =
     (c.requires.0.indexed, ahead.going, omega (arith, ahead.inside, ahead.few))
 
 pub loop-mv-smaller : goal.loop-mv-smaller
-loop-mv-smaller c =
+loop-mv-smaller g c =
     let shop : List ℕ = c.args.shop.now in
     let order : List ℕ = c.args.order.now in
     let trace : List ℕ = c.args.trace.now in
@@ -41,7 +38,7 @@ loop-mv-smaller c =
     omega (arith, row_inside _ _ _ ahead x found, c.next-onward.ensures.1)
 
 pub loop-mv-preserved : goal.loop-mv-preserved
-loop-mv-preserved c =
+loop-mv-preserved g c =
     let shop : List ℕ = c.args.shop.now in
     let order : List ℕ = c.args.order.now in
     let trace : List ℕ = c.args.trace.now in

@@ -1,11 +1,6 @@
 -- The facts that the loop leaves. Assumes nothing.
-use Prim.Native.Nat.{◌-◌}
 use native.Mathlib.Omega.{arith}
-use mathlib.Core.Path.{◌≡◌, refl}
-use borrow.Author.Rules.{rules}
-use lib.ListN.{drop}
-use Rattle.hgn.specs.Lists.{any}
-use Rattle.cases_main.specs.Relevances.{pairs, is_wanted}
+use mathlib.Core.Path.{refl}
 use Rattle.cases_main.proofs.Pairs.{wanted_here, wanted_on, none_wanted}
 use Rattle.cases_main.proofs.relevances.has_wanted.Goals as goal
 

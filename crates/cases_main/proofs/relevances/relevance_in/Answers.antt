@@ -1,7 +1,6 @@
 -- The part and the two parts that are handed on have the rows of the two rooms. Assumes nothing.
 use mathlib.Core.Path.{ap₂, ◌∙◌}
 use mathlib.Core.List.{List, flatten}
-use borrow.Author.Rules.{rules}
 use Rattle.hgn.specs.Rows.{Row}
 use Rattle.hgn.specs.Meaning.{node_of}
 use Rattle.hgn.specs.Relevance.{Relevance, relevance}

@@ -1,5 +1,4 @@
 -- The test is the definition's. Assumes nothing.
-use borrow.Author.Rules.{rules}
 use Rattle.cases_main.proofs.Pairs.{tags_of_goal, tags_of_action}
 use Rattle.cases_main.proofs.relevances.signs_of.Goals as goal
 

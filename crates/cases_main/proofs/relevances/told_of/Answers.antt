@@ -1,11 +1,10 @@
 -- The rows in the two rooms are those of the words, and the tags are the definition's. Assumes nothing.
 use native.Mathlib.Omega.{arith}
 use mathlib.Core.Path.{◌∙◌}
-use borrow.Author.Rules.{rules}
 use Rattle.cases_main.proofs.relevances.told_of.Goals as goal
 
 pub relevance_in-relevance-requires : goal.relevance_in-relevance-requires
-relevance_in-relevance-requires c = (omega (arith, c.write_rows.auto.0), omega (arith, c.write_rows-2.auto.0))
+relevance_in-relevance-requires c = (omega (arith, c.write_rows.auto.room), omega (arith, c.write_rows-2.auto.room))
 
 pub returns : goal.returns
 returns c =

@@ -1,8 +1,7 @@
 -- The facts that the loop leaves. Assumes nothing.
-use Prim.Native.Nat.{◌-◌}
 use native.Mathlib.Omega.{arith}
 use lib.ListN.{length-set}
-use Rattle.cases_main.proofs.Pairs.{Laid, none_laid, one_laid, all_laid}
+use Rattle.cases_main.proofs.Pairs.{none_laid, one_laid, all_laid}
 use Rattle.cases_main.proofs.relevances.write_rows.Goals as goal
 
 pub loop-row-init : goal.loop-row-init

@@ -1,9 +1,6 @@
 -- The facts that the loop leaves. Assumes nothing.
-use Prim.Native.Nat.{◌-◌}
 use native.Mathlib.Omega.{arith}
-use borrow.Author.Rules.{rules}
-use lib.ListN.{length}
-use Rattle.cases_main.proofs.Rooms.{Blanked, none_blanked, one_blanked, all_blanked}
+use Rattle.cases_main.proofs.Rooms.{none_blanked, one_blanked, all_blanked}
 use Rattle.cases_main.proofs.room.fill.Goals as goal
 
 pub loop-at-init : goal.loop-at-init

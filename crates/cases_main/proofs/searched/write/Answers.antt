@@ -2,11 +2,10 @@
 use Prim.Native.Nat.{ℕ}
 use mathlib.Core.Path.{ap, ◌∙◌}
 use mathlib.Core.List.{List}
-use borrow.Author.Rules.{rules}
 use Rattle.hgn.specs.Search as Search
 use Rattle.cases_main.proofs.searched.write.Goals as goal
 
 pub returns : goal.returns
-returns c = let args = c.args in
+returns g c = let args = c.args in
     ap (λ (r : Search.Searched). r.room) c.search-answer.ensures
     ∙ ap {B = List ℕ} (λ (depth : ℕ). (Search.search args.shop.now args.order.now depth args.room.now).room) c.word.ensures

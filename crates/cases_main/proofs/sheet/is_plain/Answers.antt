@@ -1,12 +1,6 @@
 -- The facts that the loop leaves. Assumes nothing.
-use Prim.Native.Nat.{◌-◌}
 use native.Mathlib.Omega.{arith}
-use mathlib.Core.Path.{◌≡◌, refl}
-use borrow.Author.Rules.{rules}
-use borrow.Author.Tests.{not-true, not-false}
-use lib.ListN.{length, drop}
-use Rattle.hgn.specs.Lists.{all}
-use Rattle.cases_main.specs.Plain.{plain_byte}
+use mathlib.Core.Path.{refl}
 use Rattle.cases_main.proofs.Plains.{not_plain, plain_on, all_plain}
 use Rattle.cases_main.proofs.sheet.is_plain.Goals as goal
 

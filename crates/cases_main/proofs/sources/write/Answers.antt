@@ -1,9 +1,6 @@
 -- `sources::write` is safe and ends: no more goals wait than may. Assumes nothing.
-use Prim.Native.Nat.{◌-◌, ◌≤◌}
 use native.Mathlib.Omega.{arith}
-use borrow.Author.Rules.{rules}
-use Rattle.hgn.specs.Network.{most_waiting}
 use Rattle.cases_main.proofs.sources.write.Goals as goal
 
 pub loop-at-init : goal.loop-at-init
-loop-at-init c = omega (arith, c.count_of-count.ensures, c.requires.few)
+loop-at-init g c = omega (arith, c.count_of-count.ensures, c.requires.few)

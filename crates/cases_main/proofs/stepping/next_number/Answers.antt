@@ -1,6 +1,5 @@
 -- The answer 0 is tested as the definition tests it. Assumes nothing.
 use native.Mathlib.Omega.{arith}
-use borrow.Author.Rules.{rules}
 use borrow.Author.Tests.{eq-eqb, ne_eqb}
 use Rattle.cases_main.proofs.stepping.next_number.Goals as goal
 

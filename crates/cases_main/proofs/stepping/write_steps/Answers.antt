@@ -1,22 +1,20 @@
 -- The facts that the loop leaves. Assumes nothing.
-use Prim.Native.Nat.{ℕ, ◌-◌, ◌≤◌}
+use Prim.Native.Nat.{ℕ}
 use native.Mathlib.Omega.{arith}
 use mathlib.Core.Path.{sym, subst}
-use mir.Syntax.{w16}
-use mir.Val.{Fits}
 use borrow.Author.Rules.{rules}
 use Rattle.step.specs.Taking.{Going}
 use Rattle.display.proofs.Steppings.{display_goes_on}
 use Rattle.cases_main.proofs.stepping.write_steps.Goals as goal
 
-pub overflow_cast-steps : goal.overflow_cast-steps
-overflow_cast-steps c = ((display_goes_on.begins _ _ _ _ c.requires).1, omega arith, omega arith, search rules)
+pub loop-at-init : goal.loop-at-init
+loop-at-init g c = ((display_goes_on.begins _ _ _ _ c.requires).1, omega arith, omega arith, search rules)
 
-pub word-requires-in-loop-at : goal.word-requires-in-loop-at
-word-requires-in-loop-at c = (c.requires.indexed, (c.loop-at.invariant.0, search rules))
+pub show_step-shown-requires : goal.show_step-shown-requires
+show_step-shown-requires g c = record { indexed = c.requires.indexed; going = (c.loop-at.invariant.0, search rules) }
 
-pub loop-at-smaller : goal.loop-at-smaller
-loop-at-smaller c =
+pub loop-at-preserved : goal.loop-at-preserved
+loop-at-preserved g c =
     let a = c.args in
     let r = c.show_step-shown.result in
     let n = c.next_number-number.ensures in (
@@ -27,5 +25,5 @@ loop-at-smaller c =
       c.loop-at.invariant.3,
     )
 
-pub loop-at-preserved : goal.loop-at-preserved
-loop-at-preserved c = c.loop-at.invariant.0.valid.within
+pub write_last-requires : goal.write_last-requires
+write_last-requires g c = c.loop-at.invariant.0.valid.within

@@ -6,8 +6,8 @@ use Rattle.step.specs.Taking.{Going}
 use Rattle.cases_main.proofs.stepping.write_steps.Given as goal
 
 abbrev pub invariant-loop-at : goal.invariant-loop-at
-invariant-loop-at l =
-    Going l.rt l.shop l.number l.problem.atoms l.problem.waiting × (l.number ≤ l.at) × (l.at ≤ l.view) × Fits w16 l.view
+invariant-loop-at g l =
+    Going l.shop l.order l.number l.problem.atoms l.problem.waiting × (l.number ≤ l.at) × (l.at ≤ l.steps) × Fits w16 l.steps
 
 abbrev pub decreases-loop-at : goal.decreases-loop-at
-decreases-loop-at l = l.view - l.at
+decreases-loop-at g l = l.steps - l.at

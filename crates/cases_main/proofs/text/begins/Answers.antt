@@ -1,9 +1,6 @@
 -- The facts that the loop leaves. Assumes nothing.
-use Prim.Native.Nat.{◌-◌}
 use native.Mathlib.Omega.{arith}
-use borrow.Author.Rules.{rules}
-use lib.ListN.{length}
-use Rattle.cases_main.proofs.Texts.{says_yes, says_no, too_short, Agreed, none_read, one_more, all_agree, agrees}
+use Rattle.cases_main.proofs.Texts.{says_yes, says_no, too_short, none_read, one_more, all_agree, agrees}
 use Rattle.cases_main.proofs.text.begins.Goals as goal
 
 pub returns-then-text-word : goal.returns-then-text-word

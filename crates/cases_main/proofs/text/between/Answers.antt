@@ -3,7 +3,6 @@ use Prim.Native.Nat.{ℕ, ◌+◌}
 use native.Mathlib.Omega.{arith}
 use mathlib.Core.Path.{◌≡◌, ap, ◌∙◌}
 use mathlib.Core.List.{List}
-use borrow.Author.Rules.{rules}
 use lib.ListN.{take, drop}
 use Rattle.cases_main.proofs.Texts.{whole_rest, nothing_behind}
 use Rattle.cases_main.proofs.text.between.Goals as goal

@@ -1,6 +1,5 @@
 -- A text of the word's length that begins with it is the word. Assumes nothing.
 use mathlib.Core.Path.{ap}
-use borrow.Author.Rules.{rules}
 use lib.ListN.{length}
 use Rattle.cases_main.proofs.Texts.{says_no, as_long}
 use Rattle.cases_main.proofs.text.equals.Goals as goal

@@ -1,10 +1,7 @@
 -- The facts that the loop leaves. Assumes nothing.
-use Prim.Native.Nat.{◌-◌}
 use mathlib.Core.Path.{sym}
-use borrow.Author.Rules.{rules}
 use native.Mathlib.Omega.{arith}
-use lib.ListN.{length}
-use Rattle.cases_main.proofs.Texts.{Sought, begun, sought_here, sought_on, sought_end}
+use Rattle.cases_main.proofs.Texts.{begun, sought_here, sought_on, sought_end}
 use Rattle.cases_main.proofs.text.find.Goals as goal
 
 pub loop-at-init : goal.loop-at-init

@@ -1,6 +1,5 @@
 -- Where the text has no such place, nothing is left. Assumes nothing.
 use native.Mathlib.Omega.{arith}
-use borrow.Author.Rules.{rules}
 use Rattle.cases_main.proofs.Texts.{whole_rest, nothing_behind}
 use Rattle.cases_main.proofs.text.rest.Goals as goal
 
