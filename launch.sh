@@ -139,7 +139,7 @@ clear_away() { :; }
 
 # replay_trace: replays the trace of `folder`. Then `answer` is what the program printed: five numbers, and the plan.
 replay_trace() {
-    # A program can't set an exit status, so it is read off what was printed: nothing, where a file could not be read.
+    # The program sets no exit status, so it is read off what was printed: nothing, where a file could not be read.
     answer=$(cd -P -- "$folder" && "$(program_at replay_main)") || fail "the program ended with status $?"
     [ -n "$answer" ] || exit 2
     check_answer
@@ -151,7 +151,7 @@ check_answer() {
         fail "the program's answer is not whole"
 }
 
-# run_into FILE PROGRAM: runs a program in `folder`, with what it prints in the file. A program can't set an exit status: what it says on standard
+# run_into FILE PROGRAM: runs a program in `folder`, with what it prints in the file. The programs set no exit status: what one says on standard
 # error is a failure, and is kept in no file, since the disk may be full.
 run_into() {
     said=$( (cd -P -- "$folder" && "$(program_at "$2")") 2>&1 >"$1") || fail "$said${said:+: }the program ended with status $?"

@@ -1,7 +1,7 @@
 #!/usr/bin/env python3
 """Brings the repository's own definitions and lemmas to one spelling, by the table beside this file.
 
-usage: tools/spelling.py        at the top of the repository; a second run changes nothing
+usage: tools/spelling.py        at the top of the repository, once: some new names are old names of other things
 
 A row of spelling.tsv is an old name, a tab, a new name. A name turns where it stands as a whole word: in `specs/` and `proofs/` in the code and
 in the code spans of comments, in `src/` outside comments and strings. A name that a file imports from another library keeps its spelling

@@ -1,7 +1,7 @@
 // Runs the cases of standard input, which is the file `stdin` of this crate, and writes a line for each: the call, the case's name,
 // and what was answered. A case is a line `CALL: NAME; SHOP | ORDER | TRACE | ROOM`, with the parts that the call takes, or
 // `CALL: NAME; same | TRACE | ROOM` on the sheets of the last line `with SHOP | ORDER`. A case of relevance, which is no call, is a line
-// `relevance: NAME; EFFECTS | WANTED`. The top of `stdin` says it at length.
+// `relevance: NAME; EFFECTS | WANTED`. The top of `stdin` says the rest at length.
 #![tactic(auto)]
 
 ghost use Rattle.std.specs.Prelude.{◌≤◌, length};
