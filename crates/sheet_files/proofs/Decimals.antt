@@ -10,7 +10,7 @@ use Rattle.std.proofs.lemmas.Fmt.{decimal_from_appends, length-decimal-le}
 use Rattle.sheet_files.specs.Texts.{most_digits, digit_count, last_digits, decimal}
 
 digits_up_to : ℕ → ℕ → List ℕ
-digits_up_to k n = last_digits (digit_count k n) n
+digits_up_to k n = last_digits 10 (digit_count k n) n
 
 one : (k n : ℕ) → n < 10 → digits_up_to (suc k) n ≡ (48 + n) ∷ []
 unfolding digits_up_to digit_count

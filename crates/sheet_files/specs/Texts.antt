@@ -14,14 +14,14 @@ unfoldable pub digit_count : ℕ → ℕ → ℕ
 digit_count zero n = 0
 digit_count (suc k) n = cond (ltb n 10) 1 (suc (digit_count k (n / 10)))
 
--- So many of a number's last decimal digits, in ASCII, the last of all behind the others.
-abbrev pub last_digits : ℕ → ℕ → List ℕ
-last_digits zero n = []
-last_digits (suc k) n = last_digits k (n / 10) ++ ((48 + n % 10) ∷ [])
+-- So many of a number's last digits in a base up to ten, in ASCII, the last of all behind the others.
+abbrev pub last_digits : ℕ → ℕ → ℕ → List ℕ
+last_digits base zero n = []
+last_digits base (suc k) n = last_digits base k (n / base) ++ ((48 + n % base) ∷ [])
 
 -- A number of no more digits than these, in ASCII.
 unfoldable pub decimal : ℕ → List ℕ
-decimal n = last_digits (digit_count most_digits n) n
+decimal n = last_digits 10 (digit_count most_digits n) n
 
 -- A number and the byte that ends it.
 unfoldable pub ended : ℕ → ℕ → List ℕ
