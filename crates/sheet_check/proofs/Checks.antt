@@ -6,11 +6,12 @@ use mathlib.Core.Path.{◌≡◌, refl, sym, ap, ◌∙◌}
 use mathlib.Core.Bool.{Bool, true, false, cond, true≢false, and-eq-true_iff}
 use mathlib.Core.Logic.{◌≢◌}
 use mathlib.Core.List.{List, [], ◌∷◌, ◌++◌}
+use Rattle.std.specs.Prelude.{None, Some}
 use lib.Dec.{eqb}
 use lib.ListN.{length, length-map}
 use borrow.Author.Tests.{eq-eqb, ne_eqb, eqb-true, le-leb, lt-leb, leb-true}
 use Rattle.hgn.specs.Lists.{elem, any, split_at_each, take_until}
-use Rattle.hgn.specs.Questions.{Question, ◌asks◌, ◌askedAt◌, Verdict, passed, refused, first_no}
+use Rattle.hgn.specs.Questions.{Refusal, without_atom, Question, ◌asks◌, ◌askedAt◌, Verdict, passed, refused, first_no}
 use Rattle.hgn.specs.Rows.{Row, most_rows, has}
 use Rattle.hgn.specs.RowQuestions.{row_questions, position_after}
 use Rattle.hgn.specs.Tag as Tag
@@ -18,32 +19,23 @@ use Rattle.hgn.specs.Meaning.{nodes_of, node_of, order_of}
 use Rattle.hgn.specs.Shop as Shop
 use Rattle.hgn.specs.Order as Order
 use Rattle.hgn.specs.Trace as Trace
-use Rattle.hgn.proofs.Questions.FirstNo.{passed_cons, Numbers, answered_passed, answered_on}
-use Rattle.hgn.proofs.Questions.Numbers.{rows_numbers, not_zero}
-use Rattle.sheet_rows.specs.Reading.{follow_of, first_question_of, position_of}
-use Rattle.sheet_rows.specs.Refusals.{refusal_of}
-use Rattle.sheet_check.specs.PartCounts.{invalid_in, closed}
-use Rattle.sheet_check.specs.Scanned.{Scanned, questions_of}
+use Rattle.hgn.proofs.Questions.FirstNo.{passed_cons, append_passed, append_refused}
+use Rattle.sheet_rows.specs.Reading.{first_question_of, position_of}
+use Rattle.sheet_check.specs.PartCounts.{offending, invalid_in, closed}
+use Rattle.sheet_check.specs.Scanned.{Passed, questions_of}
 use Rattle.sheet_rows.specs.declared.position.Sheet.{Sheet}
 use Rattle.sheet_rows.specs.declared.position.Sheet.TheVariants as Of
 use Rattle.sheet_check.specs.declared.rows.Scan.{Scan}
 use Rattle.sheet_check.specs.declared.part_counts.PartCounts.{PartCounts}
 use Rattle.sheet_check.proofs.Counts.{actions_counted, methods_counted, rules_counted}
-use Rattle.sheet_check.proofs.Scans.{first≢0}
-
--- No question of a row has the number 0.
-rows_numbered : (sheet : Sheet) (F : ℕ) (rows : List Row) → Numbers (λ k a. k ≢ 0) (questions_of sheet F rows)
-rows_numbered sheet F rows =
-    let offender = first≢0 sheet in
-    rows_numbers (λ k a. k ≢ 0) not_zero (follow_of sheet) (first_question_of sheet) F 0 Tag.opening rows (omega arith) (omega arith) (omega arith)
 
 -- Where the rows passed, the first no is that of what is asked after them, and the scan knows whether the sheet may end.
-module _ (sheet : Sheet) (F : ℕ) (rows : List Row) {s : Scan} (sc : Scanned sheet F rows s) (z : s.refusal.number ≡ 0) where
+module _ (sheet : Sheet) (F : ℕ) (rows : List Row) {s : Scan} (sc : Passed sheet F rows s) where
   ends_follow : (ends : List Question) → first_no (questions_of sheet F rows ++ ends) ≡ first_no ends
-  ends_follow ends = answered_on (questions_of sheet F rows) ends (refusal_of s.refusal) sc.refusal (rows_numbered sheet F rows) z
+  ends_follow ends = append_passed (questions_of sheet F rows) ends sc.questions
 
   position_same : Tag.may_end (position_after Tag.opening rows).context ≡ Tag.may_end (position_of s.position).context
-  position_same = ap (λ (p : Tag.Position). Tag.may_end p.context) (sym (sc.position z))
+  position_same = ap (λ (p : Tag.Position). Tag.may_end p.context) (sym sc.position)
 
 module _ (shop : List ℕ) where
   pub shop_short : length shop < Shop.size_words → Shop.check_shop shop ≡ refused (1 asks false).failure
@@ -65,29 +57,34 @@ module _ (shop : List ℕ) where
       unfolding Shop.check_shop Shop.shop_questions first_no
       shop_rest e = rw (le-leb Shop.size_words (length shop) long, sizes, eq-eqb (length shop) (Shop.size_words + 2 * Shop.row_count shop) e)
 
+      pub shop_row_no : {r : Refusal} → length shop ≡ Shop.size_words + 2 * Shop.row_count shop
+          → first_no (questions_of Of.Shop (Shop.atom_count shop) (Shop.shop_rows shop)) ≡ refused (without_atom r)
+          → Shop.check_shop shop ≡ refused (without_atom r)
+      shop_row_no e h = shop_rest e ∙ append_refused _ _ _ h
+
   pub shop_rows_few : Shop.sizes_in_range shop ≡ true → Shop.row_count shop ≤ most_rows
   unfolding Shop.sizes_in_range
   shop_rows_few e = let s = simp and-eq-true_iff at e in omega (arith, leb-true)
 
 -- What is asked of a shop sheet after its rows, question by question.
-module _ (shop : List ℕ) (s : Scan) (sc : Scanned Of.Shop (Shop.atom_count shop) (Shop.shop_rows shop) s) (z : s.refusal.number ≡ 0) where
+module _ (shop : List ℕ) (s : Scan) (sc : Passed Of.Shop (Shop.atom_count shop) (Shop.shop_rows shop) s) where
   -- The first no from the rows on.
   abbrev shop_end : Verdict
   shop_end = first_no (questions_of Of.Shop (Shop.atom_count shop) (Shop.shop_rows shop) ++ Shop.shop_end_questions shop)
 
   shop_follow_law : shop_end ≡ first_no (Shop.shop_end_questions shop)
-  shop_follow_law = ends_follow Of.Shop _ _ sc z _
+  shop_follow_law = ends_follow Of.Shop _ _ sc _
 
   shop_position : Tag.may_end (position_after Tag.opening (Shop.shop_rows shop)).context ≡ Tag.may_end (position_of s.position).context
-  shop_position = position_same Of.Shop _ _ sc z
+  shop_position = position_same Of.Shop _ _ sc
 
   actions_same : length (Shop.domain shop).actions ≡ s.counts.actions
   unfolding Shop.domain
-  actions_same = sym (ap (λ (t : PartCounts). t.actions) (sc.counts z) ∙ actions_counted (Shop.shop_rows shop))
+  actions_same = sym (ap (λ (t : PartCounts). t.actions) sc.counts ∙ actions_counted (Shop.shop_rows shop))
 
   methods_same : length (Shop.domain shop).methods ≡ s.counts.methods
   unfolding Shop.domain
-  methods_same = sym (ap (λ (t : PartCounts). t.methods) (sc.counts z) ∙ methods_counted (Shop.shop_rows shop))
+  methods_same = sym (ap (λ (t : PartCounts). t.methods) sc.counts ∙ methods_counted (Shop.shop_rows shop))
 
   pub shop_end_7 : Tag.may_end (position_of s.position).context ≡ false → shop_end ≡ refused (7 asks false).failure
   unfolding Shop.shop_end_questions first_no
@@ -121,15 +118,15 @@ module _ (shop : List ℕ) (s : Scan) (sc : Scanned Of.Shop (Shop.atom_count sho
             eq-eqb s.counts.actions (Shop.action_count shop) few,
             methods_same,
             eq-eqb s.counts.methods (Shop.method_count shop) e,
-          ) (sym (ap invalid_in c ∙ ap (λ (t : PartCounts). invalid_in (closed t)) (sc.counts z) ∙ rules_counted (Shop.shop_rows shop)))
+          ) (sym (ap invalid_in c ∙ ap (λ (t : PartCounts). invalid_in (closed t)) sc.counts ∙ rules_counted (Shop.shop_rows shop)))
 
       module _ (all : s.counts.methods ≡ Shop.method_count shop) {t : PartCounts} (c : t ≡ closed s.counts) where
-        pub shop_end_9 : t.invalid ≡ true → shop_end ≡ refused (9 asks false askedAt t.offender).failure
-        unfolding invalid_in
+        pub shop_end_9 : {k : ℕ} → t.offender ≡ Some k → shop_end ≡ refused (9 asks false askedAt k).failure
+        unfolding invalid_in offending
         shop_end_9 e = shop_end_rules all c ∙ rw e
 
-        pub shop_end_passed : t.invalid ≡ false → shop_end ≡ passed
-        unfolding invalid_in
+        pub shop_end_passed : t.offender ≡ None → shop_end ≡ passed
+        unfolding invalid_in offending
         shop_end_passed e = shop_end_rules all c ∙ rw e
 
 -- No row of an order sheet that passes begins a method, so every node counts.
@@ -185,29 +182,33 @@ module _ (shop order : List ℕ) where
       unfolding Order.order_questions first_no
       order_rest e = rw (le-leb Order.size_words (length order) long, sizes, eq-eqb (length order) (Order.size_words + 2 * Order.row_count order) e)
 
+      pub order_row_no : {r : Refusal} → length order ≡ Order.size_words + 2 * Order.row_count order
+          → first_no (questions_of Of.Order (Order.atom_count order) (Order.order_rows order)) ≡ refused (without_atom r)
+          → first_no (Order.order_questions shop order) ≡ refused (without_atom r)
+      order_row_no e h = order_rest e ∙ append_refused _ _ _ h
+
   pub order_rows_few : Order.sizes_in_range shop order ≡ true → Order.row_count order ≤ most_rows
   unfolding Order.sizes_in_range
   order_rows_few e = let s = simp and-eq-true_iff at e in omega (arith, leb-true)
 
 -- What is asked of an order sheet after its rows, question by question.
-module _ (order : List ℕ) (s : Scan) (sc : Scanned Of.Order (Order.atom_count order) (Order.order_rows order) s) (z : s.refusal.number ≡ 0) where
+module _ (order : List ℕ) (s : Scan) (sc : Passed Of.Order (Order.atom_count order) (Order.order_rows order) s) where
   -- The first no from the rows on.
   abbrev order_end : Verdict
   order_end = first_no (questions_of Of.Order (Order.atom_count order) (Order.order_rows order) ++ Order.order_end_questions order)
 
   order_follow_law : order_end ≡ first_no (Order.order_end_questions order)
-  order_follow_law = ends_follow Of.Order _ _ sc z _
+  order_follow_law = ends_follow Of.Order _ _ sc _
 
   order_position : Tag.may_end (position_after Tag.opening (Order.order_rows order)).context ≡ Tag.may_end (position_of s.position).context
-  order_position = position_same Of.Order _ _ sc z
+  order_position = position_same Of.Order _ _ sc
 
   goals_same : length (Order.order order).goals ≡ s.position.nodes
   unfolding Order.order order_of nodes_of
   goals_same =
       length-map (split_at_each (has Tag.node) (Order.order_rows order)) node_of
-      ∙ sym (ap (λ (x : Tag.Position). x.nodes) (sc.position z)
-      ∙ nodes_passed (Order.atom_count order) 0 Tag.opening (Order.order_rows order)
-      (answered_passed _ [] (refusal_of s.refusal) sc.refusal (rows_numbered Of.Order (Order.atom_count order) (Order.order_rows order)) z) ∙ zero-add _)
+      ∙ sym (ap (λ (x : Tag.Position). x.nodes) sc.position
+      ∙ nodes_passed (Order.atom_count order) 0 Tag.opening (Order.order_rows order) sc.questions ∙ zero-add _)
 
   pub order_end_17 : Tag.may_end (position_of s.position).context ≡ false → order_end ≡ refused (17 asks false).failure
   unfolding Order.order_end_questions first_no

@@ -7,6 +7,7 @@ use native.Mathlib.Omega.{arith}
 use mathlib.Core.Path.{◌≡◌, refl, ◌∙◌}
 use mathlib.Core.Bool.{Bool, true, false, not, cond, ◌&&◌}
 use mathlib.Core.List.{List, [], ◌∷◌}
+use Rattle.std.specs.Prelude.{Option, None, Some, is_none}
 use lib.Dec.{eqb, leb}
 use lib.ListN.{length, length-map}
 use mir.Syntax.{w16}
@@ -19,7 +20,7 @@ use Rattle.hgn.specs.Questions.{◌asks◌, ◌askedAt◌, Verdict, passed, refu
 use Rattle.hgn.specs.Shop.{most_nodes, node_rules, method_questions}
 use Rattle.hgn.specs.Tag as Tag
 use Rattle.sheet_check.specs.declared.part_counts.PartCounts.{PartCounts}
-use Rattle.sheet_check.specs.PartCounts.{nothing, within_rules, noted, closed, with_action, with_method, with_counts, counted, counted_rows, invalid_in, Each, Within, Small}
+use Rattle.sheet_check.specs.PartCounts.{nothing, within_rules, noted, closed, with_action, with_method, with_counts, counted, counted_rows, offending, invalid_in, Each, Within, Small}
 
 -- By the tag: one that is counted, or another, which changes nothing.
 by_tag : (P : ℕ → Type 0) → P Tag.action → P Tag.method → P Tag.node → P Tag.alternative → P Tag.after
@@ -41,7 +42,7 @@ by_tag P action method node alternative after other k =
 -- To close the open method is to change nothing, or to note it.
 closed_is : (P : PartCounts → Type 0) (t : PartCounts) → P t → P (noted t) → P (closed t)
 unfolding closed
-closed_is P t p q = go (t.inside && not t.invalid && not (within_rules t) && leb 1 t.methods)
+closed_is P t p q = go (t.inside && is_none t.offender && not (within_rules t) && leb 1 t.methods)
   where
     go : (b : Bool) → P (cond b (noted t) t)
     go true = q
@@ -154,28 +155,28 @@ method_counted t v rs = rw (rows_counted (with_method t) rs) (go _ _ (nodes_of (
 -- else what the rest answers.
 answered : PartCounts → Bool → Verdict → Verdict
 answered t within rest =
-    cond t.invalid (refused (9 asks false askedAt t.offender).failure)
+    offending t.offender
     (cond (t.inside && leb 1 t.methods) (cond within rest (refused (9 asks false askedAt (t.methods - 1)).failure)) rest)
 
 closed_answered : (t : PartCounts) (rest : Verdict)
-    → cond (closed t).invalid (refused (9 asks false askedAt (closed t).offender).failure) rest ≡ answered t (within_rules t) rest
-unfolding closed noted answered
-closed_answered t rest = go t.inside t.invalid (within_rules t) (leb 1 t.methods) refl refl refl refl
+    → offending (closed t).offender rest ≡ answered t (within_rules t) rest
+unfolding closed noted answered offending
+closed_answered t rest = go t.inside t.offender (within_rules t) (leb 1 t.methods) refl refl refl refl
   where
-    go : (o f w m : Bool) → t.inside ≡ o → t.invalid ≡ f → within_rules t ≡ w → leb 1 t.methods ≡ m
-        → cond (closed t).invalid (refused (9 asks false askedAt (closed t).offender).failure) rest ≡ answered t (within_rules t) rest
+    go : (o : Bool) (f : Option ℕ) (w m : Bool) → t.inside ≡ o → t.offender ≡ f → within_rules t ≡ w → leb 1 t.methods ≡ m
+        → offending (closed t).offender rest ≡ answered t (within_rules t) rest
     go false f w m p q r s = rw p
-    go true true w m p q r s = rw (p, q)
-    go true false true true p q r s = rw (r, s, p, q)
-    go true false true false p q r s = rw (r, s, p, q)
-    go true false false true p q r s = rw (r, s, p, q)
-    go true false false false p q r s = rw (r, s, p, q)
+    go true (Some k) w m p q r s = rw (p, q)
+    go true None true true p q r s = rw (r, s, p, q)
+    go true None true false p q r s = rw (r, s, p, q)
+    go true None false true p q r s = rw (r, s, p, q)
+    go true None false false p q r s = rw (r, s, p, q)
 
 -- The open method's rows end at the next action or method; then come the methods of the other rows.
 rules_from : (t : PartCounts) (rs : List Row)
     → invalid_in (closed (counted_rows t rs))
     ≡ answered t (within_rules (counted_rows t (take_until begins_operator rs))) (first_no (method_questions t.methods (domain_of rs).methods))
-unfolding invalid_in answered counted_rows counted with_action with_method with_counts take_until domain_of filter split_at_each starts_with method_questions first_no
+unfolding invalid_in answered offending counted_rows counted with_action with_method with_counts take_until domain_of filter split_at_each starts_with method_questions first_no
 rules_from t [] = closed_answered t passed
 rules_from t (r ∷ rs) =
     by_tag
@@ -195,5 +196,5 @@ rules_from t (r ∷ rs) =
 
 -- Question 9: the counts find the first method that is not within its node rules.
 pub rules_counted : (rows : List Row) → invalid_in (closed (counted_rows nothing rows)) ≡ first_no (method_questions 0 (domain_of rows).methods)
-unfolding answered
+unfolding answered offending
 rules_counted rows = rules_from nothing rows

@@ -16,9 +16,8 @@ use Rattle.hgn.specs.Questions as Questions
 use Rattle.hgn.specs.Questions.{◌asks◌, ◌askedAt◌, first_no}
 use Rattle.sheet_rows.specs.Reading.{follow_of, first_question_of, position_of, next, refused, row_reading}
 use Rattle.sheet_check.specs.PartCounts.{nothing, counted, counted_rows, Within}
-use Rattle.sheet_check.specs.Scanned.{questions_of}
+use Rattle.sheet_check.specs.Scanned.{Passed, questions_of}
 use Rattle.sheet_rows.specs.declared.position.Sheet.{Sheet}
-use Rattle.sheet_rows.specs.declared.position.Sheet.TheVariants.{Shop, Order}
 use Rattle.sheet_rows.specs.declared.position.Position.{Position}
 use Rattle.sheet_check.specs.declared.part_counts.PartCounts.{PartCounts}
 use Rattle.sheet_check.proofs.Counts.{within_nothing, within_counted}
@@ -49,7 +48,7 @@ module _ (follow : Tag.Context → List ℕ) (q F i : ℕ) (p : Tag.Position) (t
       go false b c e = let z : ◌≡◌ {A = ℕ} 0 1 = cc in absurd (omega arith)
 
   pub row_refused : (number : ℕ) → refused number ≡ row_reading follow q F p t v
-      → (first_no (row_questions follow q F i p (row t v ∷ rest)) ≡ Questions.refused (number asks false askedAt i).failure) × (q ≤ number)
+      → first_no (row_questions follow q F i p (row t v ∷ rest)) ≡ Questions.refused (number asks false askedAt i).failure
   unfolding row_questions first_no row_reading row_first
   row_refused number = go (elem t (follow p.context)) (Tag.in_range F p t v) (Tag.rises p t v)
     where
@@ -57,11 +56,11 @@ module _ (follow : Tag.Context → List ℕ) (q F i : ℕ) (p : Tag.Position) (t
       by z = ap (λ (k : ℕ). Questions.refused (k asks false askedAt i).failure) (sym z)
 
       go : (a b c : Bool) → refused number ≡ cond a (cond b (cond c (next (Tag.advance p t v)) (refused (q + 2))) (refused (q + 1))) (refused q)
-          → (row_first a b c ≡ Questions.refused (number asks false askedAt i).failure) × (q ≤ number)
+          → row_first a b c ≡ Questions.refused (number asks false askedAt i).failure
       go true true true e = let z : ◌≡◌ {A = ℕ} 0 1 = cc in absurd (omega arith)
-      go true true false e = let z : number ≡ q + 2 = cc in (by z, omega arith)
-      go true false c e = let z : number ≡ q + 1 = cc in (by z, omega arith)
-      go false b c e = let z : number ≡ q = cc in (by z, omega arith)
+      go true true false e = let z : number ≡ q + 2 = cc in by z
+      go true false c e = let z : number ≡ q + 1 = cc in by z
+      go false b c e = let z : number ≡ q = cc in by z
 
 -- A row adds at most one node.
 nodes_advance : (p : Tag.Position) (t v : ℕ) → (Tag.advance p t v).nodes ≤ suc p.nodes
@@ -72,10 +71,6 @@ nodes_advance p t v = go (eqb t Tag.method) (eqb t Tag.node)
     go true b = omega arith
     go false true = omega arith
     go false false = omega arith
-
-pub first≢0 : (sheet : Sheet) → 1 ≤ first_question_of sheet
-first≢0 Shop = omega arith
-first≢0 Order = omega arith
 
 -- Rows 0 to `i` less 1 have passed and led to this position and these counts.
 pub record Going (sheet : Sheet) (F : ℕ) (rs : List Row) (i : ℕ) (p : Position) (t : PartCounts) : Type 0 where
@@ -124,22 +119,23 @@ module _ (sheet : Sheet) (F : ℕ) (rs : List Row) where
         }
 
     going_refused : (number : ℕ) → refused number ≡ row_reading (follow_of sheet) (first_question_of sheet) F (position_of p) tag value
-        → (first_no (questions_of sheet F rs) ≡ Questions.refused (number asks false askedAt i).failure) × (1 ≤ number)
+        → first_no (questions_of sheet F rs) ≡ Questions.refused (number asks false askedAt i).failure
     going_refused number e =
-        let r = row_refused (follow_of sheet) (first_question_of sheet) F i (position_of p) tag value (drop (i + 1) rs) number e in (
-          g.questions ∙ ap (λ (l : List Row). first_no (row_questions (follow_of sheet) (first_question_of sheet) F i (position_of p) l)) rest ∙ r.0,
-          omega (arith, first≢0 sheet, r.1),
-        )
+        g.questions
+        ∙ ap (λ (l : List Row). first_no (row_questions (follow_of sheet) (first_question_of sheet) F i (position_of p) l)) rest
+        ∙ row_refused (follow_of sheet) (first_question_of sheet) F i (position_of p) tag value (drop (i + 1) rs) number e
 
   going_end : (i : ℕ) (p : Position) (t : PartCounts) → Going sheet F rs i p t → length rs ≤ i
-      → (first_no (questions_of sheet F rs) ≡ Questions.passed) × (position_of p ≡ position_after Tag.opening rs) × (t ≡ counted_rows nothing rs)
+      → Passed sheet F rs (record { position = p; counts = t })
   unfolding row_questions first_no position_after counted_rows
   going_end i p t g h =
-      let e = drop_of_length-le rs h in (
-        g.questions ∙ ap (λ (l : List Row). first_no (row_questions (follow_of sheet) (first_question_of sheet) F i (position_of p) l)) e,
-        sym (g.position ∙ ap (position_after (position_of p)) e),
-        sym (g.led ∙ ap (counted_rows t) e),
-      )
+      let e = drop_of_length-le rs h in
+      record {
+        questions =
+            g.questions ∙ ap (λ (l : List Row). first_no (row_questions (follow_of sheet) (first_question_of sheet) F i (position_of p) l)) e;
+        position = sym (g.position ∙ ap (position_after (position_of p)) e);
+        counts = sym (g.led ∙ ap (counted_rows t) e);
+      }
 
 -- The pass over the rows that stand in a sheet's words.
 module _ (sheet : Sheet) (F sizes n : ℕ) (words : List ℕ) (fits : sizes + (n + n) ≤ length words) where
@@ -160,9 +156,9 @@ module _ (sheet : Sheet) (F sizes n : ℕ) (words : List ℕ) (fits : sizes + (n
     read_next {p'} {t'} = going_next sheet F rows i p t g inside tag value read p' t'
 
     pub read_refused : (number : ℕ) → refused number ≡ row_reading (follow_of sheet) (first_question_of sheet) F (position_of p) tag value
-        → (first_no (questions_of sheet F rows) ≡ Questions.refused (number asks false askedAt i).failure) × (1 ≤ number)
+        → first_no (questions_of sheet F rows) ≡ Questions.refused (number asks false askedAt i).failure
     read_refused = going_refused sheet F rows i p t g inside tag value read
 
   pub read_end : {i : ℕ} {p : Position} {t : PartCounts} → Going sheet F rows i p t → n ≤ i
-      → (first_no (questions_of sheet F rows) ≡ Questions.passed) × (position_of p ≡ position_after Tag.opening rows) × (t ≡ counted_rows nothing rows)
+      → Passed sheet F rows (record { position = p; counts = t })
   read_end {i} {p} {t} g h = going_end sheet F rows i p t g (rw (rows_length sizes n words fits) h)

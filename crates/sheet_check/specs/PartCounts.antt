@@ -1,5 +1,5 @@
 -- What questions 8 and 9 of document 01, "Questions", count, row after row. That these counts are those of the definitions is proved in `proofs/Counts.antt`.
-use Rattle.std.specs.Prelude.{ℕ, suc, ◌+◌, ◌-◌, ◌≤◌, Bool, true, false, not, cond, ◌&&◌, List, [], ◌∷◌, eqb, leb}
+use Rattle.std.specs.Prelude.{ℕ, suc, ◌+◌, ◌-◌, ◌≤◌, Bool, true, false, not, cond, ◌&&◌, List, [], ◌∷◌, Option, None, Some, is_none, eqb, leb}
 use Rattle.std.specs.Int.{w16}
 use Rattle.std.proofs.Common.{Fits}
 use Rattle.hgn.specs.Tag as Tag
@@ -9,7 +9,7 @@ use Rattle.hgn.specs.Questions.{Verdict, passed, refused, ◌asks◌, ◌askedAt
 use Rattle.sheet_check.specs.declared.part_counts.PartCounts.{PartCounts}
 
 abbrev pub nothing : PartCounts
-nothing = record { actions = 0; methods = 0; inside = false; nodes = 0; alternatives = 0; afters = 0; invalid = false; offender = 0 }
+nothing = record { actions = 0; methods = 0; inside = false; nodes = 0; alternatives = 0; afters = 0; offender = None }
 
 -- The open method is within its node rules.
 unfoldable pub within_rules : PartCounts → Bool
@@ -24,13 +24,12 @@ noted t = record {
   nodes = t.nodes;
   alternatives = t.alternatives;
   afters = t.afters;
-  invalid = true;
-  offender = t.methods - 1;
+  offender = Some (t.methods - 1);
 }
 
 -- The open method ends here.
 unfoldable pub closed : PartCounts → PartCounts
-closed t = cond (t.inside && not t.invalid && not (within_rules t) && leb 1 t.methods) (noted t) t
+closed t = cond (t.inside && is_none t.offender && not (within_rules t) && leb 1 t.methods) (noted t) t
 
 -- An action begins.
 unfoldable pub with_action : PartCounts → PartCounts
@@ -41,7 +40,6 @@ with_action t = record {
   nodes = t.nodes;
   alternatives = t.alternatives;
   afters = t.afters;
-  invalid = t.invalid;
   offender = t.offender;
 }
 
@@ -54,7 +52,6 @@ with_method t = record {
   nodes = 0;
   alternatives = 0;
   afters = 0;
-  invalid = t.invalid;
   offender = t.offender;
 }
 
@@ -67,7 +64,6 @@ with_counts t nodes alternatives afters = record {
   nodes = nodes;
   alternatives = alternatives;
   afters = afters;
-  invalid = t.invalid;
   offender = t.offender;
 }
 
@@ -90,9 +86,14 @@ unfoldable pub counted_rows : PartCounts → List Row → PartCounts
 counted_rows t [] = t
 counted_rows t (r ∷ rs) = counted_rows (counted t r.tag) rs
 
--- The answer to question 9, once the last method is closed: no, at the number of the first method that was noted.
+-- No to question 9, at the first method that was noted; where none was, what follows.
+unfoldable pub offending : Option ℕ → Verdict → Verdict
+offending (Some method) rest = refused (9 asks false askedAt method).failure
+offending None rest = rest
+
+-- The answer to question 9, once the last method is closed.
 unfoldable pub invalid_in : PartCounts → Verdict
-invalid_in t = cond t.invalid (refused (9 asks false askedAt t.offender).failure) passed
+invalid_in t = offending t.offender passed
 
 -- Every count is such a number.
 pub record Each (P : ℕ → Type 0) (t : PartCounts) : Type 0 where

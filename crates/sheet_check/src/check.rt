@@ -1,16 +1,16 @@
-// The three checks: number and place of the first question that fails, or 0 and 0. Document 01, "Questions".
+// The three checks: the first question that is answered no, with its place, is the refusal. Document 01, "Questions".
 ghost use Rattle.std.specs.Prelude.{◌≡◌};
 ghost use Rattle.hgn.specs.Shop.{check_shop};
 ghost use Rattle.hgn.specs.Order.{order_questions, check_order};
 ghost use Rattle.hgn.specs.Trace.{trace_questions, check_trace};
 ghost use Rattle.hgn.specs.Questions.{first_no, answered};
-ghost use Rattle.sheet_rows.specs.Refusals.{refusal_of};
+ghost use Rattle.sheet_rows.specs.Refusals.{answer_of};
 ghost use Rattle.sheet_check.specs.Answers.{ShopInRange, OrderInRange, ShopEnds, OrderEnds};
 
 use crate::rows::{Layout, Scan};
 use crate::sizes::{OrderSizes, ShopSizes, TraceSizes};
 use sheet_rows::position::Sheet;
-use sheet_rows::refusal::Refusal;
+use sheet_rows::refusal::{Question, Refusal};
 
 // What a shop sheet may hold.
 #[derive(Clone, Copy)]
@@ -53,155 +53,115 @@ impl Trace {
 fn shop_in_range(sizes: ShopSizes) -> bool
     ensures { ShopInRange sizes result }
 {
-    if sizes.atoms < 1 {
-        return false;
-    }
-    if Shop::MOST_ATOMS < sizes.atoms {
-        return false;
-    }
-    if Shop::MOST_ACTIONS < sizes.actions {
-        return false;
-    }
-    if Shop::MOST_METHODS < sizes.methods {
-        return false;
-    }
-    sizes.rows <= Layout::MOST_ROWS
+    (1..=Shop::MOST_ATOMS).contains(&sizes.atoms)
+        && sizes.actions <= Shop::MOST_ACTIONS
+        && sizes.methods <= Shop::MOST_METHODS
+        && sizes.rows <= Layout::MOST_ROWS
 }
 
 // F of an order sheet is the shop's, and G and N are in range.
 fn order_in_range(shop: ShopSizes, sizes: OrderSizes) -> bool
     ensures { OrderInRange shop sizes result }
 {
-    if sizes.atoms == shop.atoms {
-        if Order::MOST_GOALS < sizes.goals {
-            return false;
-        }
-        return sizes.rows <= Layout::MOST_ROWS;
-    }
-    false
+    sizes.atoms == shop.atoms && sizes.goals <= Order::MOST_GOALS && sizes.rows <= Layout::MOST_ROWS
 }
 
 // What is asked of a shop sheet after its rows.
-fn shop_end(scan: Scan, sizes: ShopSizes) -> Refusal
+fn shop_end(scan: Scan, sizes: ShopSizes) -> Result<(), Refusal>
     ensures { ShopEnds scan sizes result }
 {
-    let refusal = scan.refusal;
-    if refusal.number == 0 {
-        let position = scan.position;
-        let context = position.context;
-        if context.may_end() {
-            let counts = scan.counts;
-            if counts.actions == sizes.actions {
-                if counts.methods == sizes.methods {
-                    let last = counts.closed();
-                    if last.invalid {
-                        let unplaced = Refusal::by(9);
-                        return unplaced.at(last.offender);
-                    }
-                    return Refusal::none();
-                }
-                return Refusal::by(8);
-            }
-            return Refusal::by(8);
-        }
-        return Refusal::by(7);
+    if !scan.position.context.may_end() {
+        return Err(Refusal::by(Question::ShopEnd));
     }
-    refusal
+    if scan.counts.actions != sizes.actions || scan.counts.methods != sizes.methods {
+        return Err(Refusal::by(Question::ShopCounts));
+    }
+    match scan.counts.closed().offender {
+        Some(method) => Err(Refusal::by(Question::MethodNodes).at(method)),
+        None => Ok(()),
+    }
 }
 
 // What is asked of an order sheet after its rows.
-fn order_end(scan: Scan, sizes: OrderSizes) -> Refusal
+fn order_end(scan: Scan, sizes: OrderSizes) -> Result<(), Refusal>
     ensures { OrderEnds scan sizes result }
 {
-    let refusal = scan.refusal;
-    if refusal.number == 0 {
-        let position = scan.position;
-        let context = position.context;
-        if context.may_end() {
-            if position.nodes == sizes.goals {
-                return Refusal::none();
-            }
-            return Refusal::by(18);
-        }
-        return Refusal::by(17);
+    if !scan.position.context.may_end() {
+        return Err(Refusal::by(Question::OrderEnd));
     }
-    refusal
+    if scan.position.nodes != sizes.goals {
+        return Err(Refusal::by(Question::OrderCounts));
+    }
+    Ok(())
 }
 
 // Questions 1 to 9.
-pub fn check_shop(shop: &[u16]) -> Refusal
-    ensures { refusal_of result ≡ answered (check_shop shop.now) }
+pub fn check_shop(shop: &[u16]) -> Result<(), Refusal>
+    ensures { answer_of result ≡ answered (check_shop shop.now) }
 {
     if shop.len() < Shop::SIZES {
-        return Refusal::by(1);
+        return Err(Refusal::by(Question::ShopTooShort));
     }
     let sizes = ShopSizes::of(shop);
-    if shop_in_range(sizes) {
-        let layout = sizes.layout();
-        if shop.len() == layout.sizes + 2 * layout.rows {
-            let scan = layout.scan(shop, Sheet::Shop, sizes.atoms);
-            return shop_end(scan, sizes);
-        }
-        return Refusal::by(3);
+    if !shop_in_range(sizes) {
+        return Err(Refusal::by(Question::ShopSizes));
     }
-    Refusal::by(2)
+    let layout = sizes.layout();
+    if shop.len() != layout.sizes + 2 * layout.rows {
+        return Err(Refusal::by(Question::ShopLength));
+    }
+    let scan = layout.scan(shop, Sheet::Shop, sizes.atoms)?;
+    shop_end(scan, sizes)
 }
 
 // Questions 11 to 18, of an order sheet; the shop sheet is asked before.
-pub fn ask_order(shop: &[u16], order: &[u16]) -> Refusal
-    ensures { refusal_of result ≡ answered (first_no (order_questions shop.now order.now)) }
+pub fn ask_order(shop: &[u16], order: &[u16]) -> Result<(), Refusal>
+    ensures { answer_of result ≡ answered (first_no (order_questions shop.now order.now)) }
 {
     if order.len() < Order::SIZES {
-        return Refusal::by(11);
+        return Err(Refusal::by(Question::OrderTooShort));
     }
     let sizes = OrderSizes::of(order);
-    if order_in_range(ShopSizes::of(shop), sizes) {
-        let layout = sizes.layout();
-        if order.len() == layout.sizes + 2 * layout.rows {
-            let scan = layout.scan(order, Sheet::Order, sizes.atoms);
-            return order_end(scan, sizes);
-        }
-        return Refusal::by(13);
+    if !order_in_range(ShopSizes::of(shop), sizes) {
+        return Err(Refusal::by(Question::OrderSizes));
     }
-    Refusal::by(12)
+    let layout = sizes.layout();
+    if order.len() != layout.sizes + 2 * layout.rows {
+        return Err(Refusal::by(Question::OrderLength));
+    }
+    let scan = layout.scan(order, Sheet::Order, sizes.atoms)?;
+    order_end(scan, sizes)
 }
 
 // Questions 21 to 23.
-fn ask_trace(trace: &[u16]) -> Refusal
-    ensures { refusal_of result ≡ answered (first_no (trace_questions trace.now)) }
+fn ask_trace(trace: &[u16]) -> Result<(), Refusal>
+    ensures { answer_of result ≡ answered (first_no (trace_questions trace.now)) }
 {
     if trace.len() < Trace::SIZES {
-        return Refusal::by(21);
+        return Err(Refusal::by(Question::TraceTooShort));
     }
     let sizes = TraceSizes::of(trace);
-    if Trace::MOST_STEPS < sizes.steps {
-        return Refusal::by(22);
+    if sizes.steps > Trace::MOST_STEPS {
+        return Err(Refusal::by(Question::TraceSteps));
     }
-    let steps = sizes.steps as usize;
-    if trace.len() == Trace::SIZES + 2 * steps {
-        return Refusal::none();
+    if trace.len() != Trace::SIZES + 2 * usize::from(sizes.steps) {
+        return Err(Refusal::by(Question::TraceLength));
     }
-    Refusal::by(23)
+    Ok(())
 }
 
 // The shop sheet, then the order sheet.
-pub fn check_order(shop: &[u16], order: &[u16]) -> Refusal
-    ensures { refusal_of result ≡ answered (check_order shop.now order.now) }
+pub fn check_order(shop: &[u16], order: &[u16]) -> Result<(), Refusal>
+    ensures { answer_of result ≡ answered (check_order shop.now order.now) }
 {
-    let first = check_shop(shop);
-    if first.number == 0 {
-        return ask_order(shop, order);
-    }
-    first
+    check_shop(shop)?;
+    ask_order(shop, order)
 }
 
 // The shop sheet, the order sheet, then the trace.
-pub fn check_trace(shop: &[u16], order: &[u16], trace: &[u16]) -> Refusal
-    ensures { refusal_of result ≡ answered (check_trace shop.now order.now trace.now) }
+pub fn check_trace(shop: &[u16], order: &[u16], trace: &[u16]) -> Result<(), Refusal>
+    ensures { answer_of result ≡ answered (check_trace shop.now order.now trace.now) }
 {
-    let first = check_order(shop, order);
-    if first.number == 0 {
-        return ask_trace(trace);
-    }
-    first
+    check_order(shop, order)?;
+    ask_trace(trace)
 }

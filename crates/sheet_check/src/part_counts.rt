@@ -14,9 +14,8 @@ pub struct PartCounts {
     pub nodes: u16,
     pub alternatives: u16,
     pub afters: u16,
-    // A method was outside its node rules; the first such.
-    pub invalid: bool,
-    pub offender: u16,
+    // The first method that was outside its node rules, if one was.
+    pub offender: Option<u16>,
 }
 
 impl PartCounts {
@@ -33,97 +32,71 @@ impl PartCounts {
             nodes: 0,
             alternatives: 0,
             afters: 0,
-            invalid: false,
-            offender: 0,
+            offender: None,
         }
     }
 
     // The open method is within its node rules.
+    #[tactic(auto, using(std::proofs::lemmas::Bool::Decides::nat_tests), unfolding(crate::specs::PartCounts::within_rules))]
     pub fn within_rules(self) -> bool
         ensures { result ≡ within_rules self }
     {
-        if self.nodes < 1 {
-            return false;
-        }
-        if Self::MOST_NODES < self.nodes {
-            return false;
-        }
-        if self.alternatives == 1 {
-            return self.afters == 0;
-        }
-        false
+        (1..=Self::MOST_NODES).contains(&self.nodes) && self.alternatives == 1 && self.afters == 0
     }
 
     // The open method ends here.
+    #[tactic(auto, using(std::proofs::lemmas::Bool::Decides::nat_tests), unfolding(crate::specs::PartCounts::closed, crate::specs::PartCounts::noted))]
     pub fn closed(self) -> PartCounts
         ensures { result ≡ closed self }
     {
-        if self.inside {
-            if self.invalid {
-                return self;
-            }
-            if self.within_rules() {
-                return self;
-            }
-            if self.methods < 1 {
-                return self;
-            }
-            let mut t = self;
-            t.invalid = true;
-            t.offender = t.methods - 1;
-            return t;
+        if self.inside && self.offender.is_none() && !self.within_rules() && self.methods >= 1 {
+            return PartCounts {
+                offender: Some(self.methods - 1),
+                ..self
+            };
         }
         self
     }
 
-    // The counts after one more row.
-    pub fn counted(self, tag: u16) -> PartCounts
-        requires { Small self }
-        ensures { result ≡ counted self tag }
+    // Counts one more row.
+    #[tactic(auto, using(std::proofs::lemmas::Bool::Decides::nat_tests), unfolding(crate::specs::PartCounts::counted, crate::specs::PartCounts::with_action, crate::specs::PartCounts::with_method, crate::specs::PartCounts::with_counts))]
+    pub fn count(&mut self, tag: u16)
+        requires { Small self.old }
+        ensures { self.new ≡ counted self.old tag }
     {
-        if tag == tag::ACTION {
-            let mut t = self.closed();
-            t.actions = t.actions + 1;
-            t.inside = false;
-            return t;
+        match tag {
+            tag::ACTION => {
+                *self = self.closed();
+                self.actions += 1;
+                self.inside = false;
+            }
+            tag::METHOD => {
+                *self = self.closed();
+                self.methods += 1;
+                self.inside = true;
+                self.nodes = 0;
+                self.alternatives = 0;
+                self.afters = 0;
+            }
+            tag::NODE => {
+                self.nodes += 1;
+                self.alternatives = 0;
+                self.afters = 0;
+            }
+            tag::ALTERNATIVE => self.alternatives += 1,
+            tag::AFTER => self.afters += 1,
+            _ => {}
         }
-        if tag == tag::METHOD {
-            let mut t = self.closed();
-            t.methods = t.methods + 1;
-            t.inside = true;
-            t.nodes = 0;
-            t.alternatives = 0;
-            t.afters = 0;
-            return t;
-        }
-        let mut t = self;
-        if tag == tag::NODE {
-            t.nodes = t.nodes + 1;
-            t.alternatives = 0;
-            t.afters = 0;
-            return t;
-        }
-        if tag == tag::ALTERNATIVE {
-            t.alternatives = t.alternatives + 1;
-            return t;
-        }
-        if tag == tag::AFTER {
-            t.afters = t.afters + 1;
-            return t;
-        }
-        t
     }
 
-    // The counts after a row that goes on in its group: only an 11 row counts.
-    pub fn counted_in_group(self, tag: u16) -> PartCounts
-        requires { Small self }
-        ensures { result ≡ counted_in_group self tag }
+    // Counts a row that goes on in its group: only an 11 row counts.
+    #[tactic(auto, using(std::proofs::lemmas::Bool::Decides::nat_tests), unfolding(crate::specs::PartCounts::counted_in_group, crate::specs::PartCounts::with_counts))]
+    pub fn count_in_group(&mut self, tag: u16)
+        requires { Small self.old }
+        ensures { self.new ≡ counted_in_group self.old tag }
     {
-        let mut t = self;
         if tag == tag::AFTER {
-            t.afters = t.afters + 1;
-            return t;
+            self.afters += 1;
         }
-        t
     }
 }

@@ -7,6 +7,8 @@ ghost use Rattle.sheet_check.specs.Sizes.{ShopSized, OrderSized, TraceSized};
 use crate::check::{Order, Shop};
 use crate::rows::{Layout, word};
 
+// Each sheet has a struct of its own: the words that they name differ, and a trait over them would list these words a second time.
+
 // A shop sheet begins with F, K, M and N.
 #[derive(Clone, Copy)]
 pub struct ShopSizes {
@@ -58,7 +60,7 @@ impl ShopSizes {
     {
         Layout {
             sizes: Shop::SIZES,
-            rows: self.rows as usize,
+            rows: usize::from(self.rows),
         }
     }
 }
@@ -88,7 +90,7 @@ impl OrderSizes {
     {
         Layout {
             sizes: Order::SIZES,
-            rows: self.rows as usize,
+            rows: usize::from(self.rows),
         }
     }
 }

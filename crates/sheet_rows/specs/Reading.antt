@@ -1,5 +1,5 @@
 -- The code's sheet, context, position and reading of a row, as the definitions have them. Document 01, "The three sheets".
-use Rattle.std.specs.Prelude.{ℕ, suc, ◌+◌, Bool, false, cond, List, [], ◌∷◌, eqb, leb, ltb}
+use Rattle.std.specs.Prelude.{ℕ, suc, ◌+◌, Bool, false, cond, List, [], ◌∷◌, Result, Ok, Err, eqb, leb, ltb}
 use Rattle.hgn.specs.Lists.{elem}
 use Rattle.hgn.specs.Tag as Tag
 use Rattle.sheet_rows.specs.declared.position.Sheet.{Sheet}
@@ -7,8 +7,8 @@ use Rattle.sheet_rows.specs.declared.position.Sheet.TheVariants.{Shop, Order}
 use Rattle.sheet_rows.specs.declared.position.Context.{Context}
 use Rattle.sheet_rows.specs.declared.position.Context.TheVariants.{AtStart, InAction, InEffects, InMethod, InNode, InAlternative}
 use Rattle.sheet_rows.specs.declared.position.Position.{Position}
-use Rattle.sheet_rows.specs.declared.position.Reading.{Reading}
-use Rattle.sheet_rows.specs.declared.position.Reading.TheVariants.{Next, Refused}
+use Rattle.sheet_rows.specs.declared.refusal.Question.{Question}
+use Rattle.sheet_rows.specs.Refusals.{number_of}
 
 abbrev pub follow_of : Sheet → Tag.Context → List ℕ
 follow_of Shop = Tag.shop_follow
@@ -35,9 +35,9 @@ pub data RowReading : Type 0 where
   next : Tag.Position → RowReading
   refused : ℕ → RowReading
 
-abbrev pub reading_of : Reading → RowReading
-reading_of (Next p) = next (position_of p)
-reading_of (Refused number) = refused number
+abbrev pub reading_of : Result Position Question → RowReading
+reading_of (Ok p) = next (position_of p)
+reading_of (Err question) = refused (number_of question)
 
 -- The three questions of a row at a position, `q` the first's number.
 unfoldable pub row_reading : (Tag.Context → List ℕ) → ℕ → ℕ → Tag.Position → ℕ → ℕ → RowReading

@@ -1,6 +1,5 @@
 // The twelve tags by name. Document 01, "The three sheets".
-ghost use Rattle.std.specs.Prelude.{◌≡◌, [], ◌∷◌};
-ghost use Rattle.hgn.specs.Lists.{elem};
+ghost use Rattle.std.specs.Prelude.{◌≡◌};
 ghost use Rattle.hgn.specs.Tag.{begins};
 
 pub const ACTION: u16 = 1;
@@ -27,37 +26,10 @@ pub const AFTER: u16 = 11;
 
 pub const TRUE_AT_START: u16 = 12;
 
-// The tag is one of these.
-pub fn one_of_2(tag: u16, a: u16, b: u16) -> bool
-    ensures { result ≡ elem tag (a ∷ b ∷ []) }
-{
-    if tag == a {
-        return true;
-    }
-    tag == b
-}
-
-pub fn one_of_3(tag: u16, a: u16, b: u16, c: u16) -> bool
-    ensures { result ≡ elem tag (a ∷ b ∷ c ∷ []) }
-{
-    if tag == a {
-        return true;
-    }
-    one_of_2(tag, b, c)
-}
-
-pub fn one_of_4(tag: u16, a: u16, b: u16, c: u16, d: u16) -> bool
-    ensures { result ≡ elem tag (a ∷ b ∷ c ∷ d ∷ []) }
-{
-    if tag == a {
-        return true;
-    }
-    one_of_3(tag, b, c, d)
-}
-
 // A row with this tag begins an action, a method, a node or an alternative.
+#[tactic(auto, using(std::proofs::lemmas::Bool::Decides::nat_tests), unfolding(hgn::specs::Tag::begins, hgn::specs::Lists::elem, hgn::specs::Lists::any))]
 pub fn begins_part(tag: u16) -> bool
     ensures { result ≡ begins tag }
 {
-    one_of_4(tag, ACTION, METHOD, NODE, ALTERNATIVE)
+    tag == ACTION || tag == METHOD || tag == NODE || tag == ALTERNATIVE
 }

@@ -11,10 +11,10 @@ returns-then-trace-lt-SIZES c = c.by.ensures ∙ ap answered (sym (trace_short _
 pub returns-then-sizes-gt-MOST_STEPS : goal.returns-then-sizes-gt-MOST_STEPS
 returns-then-sizes-gt-MOST_STEPS c = c.by-then-sizes-gt-MOST_STEPS.ensures ∙ ap answered (sym (trace_steps_no _ c.if-trace-lt-SIZES.false (omega arith)))
 
-pub returns-then-trace-steps : goal.returns-then-trace-steps
-returns-then-trace-steps c = c.none.ensures ∙ ap answered (sym (trace_passed _ c.if-trace-lt-SIZES.false (omega arith) (omega arith)))
+pub returns-then-trace-from : goal.returns-then-trace-from
+returns-then-trace-from c =
+    c.by-then-trace-from.ensures ∙ ap answered (sym (trace_length_no _ c.if-trace-lt-SIZES.false (omega arith)
+    (λ e. c.if-trace-from.true (omega arith))))
 
 pub returns : goal.returns
-returns c =
-    c.by-2.ensures ∙ ap answered (sym (trace_length_no _ c.if-trace-lt-SIZES.false (omega arith)
-    (λ e. c.if-trace-steps.false (omega arith))))
+returns c = ap answered (sym (trace_passed _ c.if-trace-lt-SIZES.false (omega arith) (omega arith)))

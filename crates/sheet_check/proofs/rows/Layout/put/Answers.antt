@@ -3,5 +3,5 @@ use native.Mathlib.Omega.{arith}
 use lib.ListN.{length-set}
 use Rattle.sheet_check.proofs.rows.Layout.put.Goals as goal
 
-pub bounds-room-behind : goal.bounds-room-behind
-bounds-room-behind c = simp length-set (omega arith)
+pub bounds-room-self-2 : goal.bounds-room-self-2
+bounds-room-self-2 c = simp length-set (omega arith)

@@ -1,9 +1,0 @@
--- The tag is the first, or it is looked for among the rest. Assumes nothing.
-use Rattle.sheet_rows.proofs.Laws.{elements}
-use Rattle.sheet_rows.proofs.tag.one_of_2.Goals as goal
-
-pub returns-then-tag-a : goal.returns-then-tag-a
-returns-then-tag-a c = search elements
-
-pub returns : goal.returns
-returns c = search elements
