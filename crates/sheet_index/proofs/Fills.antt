@@ -21,6 +21,18 @@ use Rattle.sheet_rows.proofs.Laws.{elem_one}
 use Rattle.sheet_check.proofs.Lookup.{rows_length, rows_at}
 use Rattle.sheet_index.proofs.Spans.{by_test, starts_count, ends_length}
 
+-- The tags that begin an action or a method.
+pub opens : (t : ℕ) → Tag.action ≤ t → t ≤ Tag.method → elem t (Tag.action ∷ Tag.method ∷ []) ≡ true
+unfolding elem any
+opens zero h k = absurd (omega arith)
+opens (suc zero) h k = refl
+opens (suc (suc zero)) h k = refl
+opens (suc (suc (suc t))) h k = absurd (omega arith)
+
+pub opens_none : (t : ℕ) → t ≢ Tag.action → t ≢ Tag.method → elem t (Tag.action ∷ Tag.method ∷ []) ≡ false
+unfolding elem any
+opens_none t d e = rw (ne_eqb t Tag.action d, ne_eqb t Tag.method e)
+
 -- One more number goes in front of those that are filled in.
 fill_in : (l l' rest : List ℕ) (k v : ℕ) → k < length l → l' ≡ take (suc k) l ++ rest → set l' k v ≡ take k l ++ (v ∷ rest)
 fill_in l l' rest k v h e =

@@ -4,6 +4,6 @@ pub mod Fills
 pub mod Indexed
 pub mod NodeWalks
 pub mod NodeParts
+pub mod Columns
 pub mod Tables
-pub mod ShopParts
 pub mod OperatorRows

@@ -21,11 +21,11 @@ use Rattle.hgn.proofs.Sheets.Checked.{length_last_after_all, shop_counts, kept, 
 use Rattle.hgn.proofs.Sheets.Methods.{needs_first, goal_of_last}
 use Rattle.hgn.proofs.Sheets.Written.{shop_rules}
 use Rattle.sheet_rows.specs.declared.position.Sheet.TheVariants as Of
-use Rattle.sheet_index.specs.Index.{starts, ends, span, span_of, span_rows, part_rows}
+use Rattle.sheet_index.specs.Index.{starts, ends, span, span_of, span_rows, rows_in}
 use Rattle.sheet_index.proofs.Spans.{take_until_take_until, span_take_until, opens_no, bounds, operator_first, operator_ends, operator_until, operator_span, part_span, part_end, operator_nodes}
 use Rattle.sheet_index.proofs.Indexed.{actions_length, methods_length, shop_length, operators_in_order, operators_count, action_span, method_span}
-use Rattle.sheet_index.specs.Tables.{Indexed, Inside, HasRows, ActionIn, Bounds, node_at, MethodAt}
-use Rattle.sheet_index.specs.declared.index.Part.{Part}
+use Rattle.sheet_index.specs.Tables.{Indexed, HasRows, ActionIn, Bounds, node_at, MethodAt}
+use Rattle.sheet_index.specs.declared.rows.Rows.{Rows}
 use Rattle.sheet_index.specs.declared.operators.MethodRows.{MethodRows}
 use Rattle.sheet_index.proofs.NodeParts.{walk_nodes}
 use Rattle.sheet_index.proofs.Tables.{shop_passes, ends_fit, end_at, start_at, rows_of, indexable}
@@ -99,26 +99,17 @@ module _ {shop order table : List ℕ} (ix : Indexed shop order table) where
     start_below at e = omega (arith, start_is at e, (operator_first rows (k - 1) operator).0, shop_length shop (shop_passes ix))
 
     -- Behind its first row stand its needs and its effects.
-    pub action_inside : (at : ℕ) → at ≡ most_rows + (k - 1) → Inside shop (get_or table at 0 + 1) (get_or table (most_rows + k) 0)
-    action_inside at e =
-        let w = operator_ends rows (k - 1) operator in
-        record {
-          in_order = omega (arith, start_is at e, end_is, w.0);
-          below = omega (arith, end_is, w.1, shop_length shop (shop_passes ix));
-          fits = (indexable ix).fits;
-        }
-
-    pub action_there : (at : ℕ) → at ≡ most_rows + (k - 1) → {p : Part} → HasRows shop (get_or table at 0 + 1) (get_or table (most_rows + k) 0) p → ActionIn shop k p
+    pub action_there : (at : ℕ) → at ≡ most_rows + (k - 1) → {rs : Rows} → HasRows shop (get_or table at 0 + 1) (get_or table (most_rows + k) 0) rs → ActionIn shop k rs
     unfolding action_of
-    action_there at e {p} r =
+    action_there at e {rs} r =
         let w = operator_ends rows (k - 1) operator in
         let f = operator_first rows (k - 1) operator in
-        let i = action_inside at e in
-        let behind : part_rows shop p ≡ span rows (suc (get_or (bounds rows) (k - 1) 0)) (get_or (bounds rows) (suc (k - 1)) 0) =
-        r.rows_are order ∙ rows_of ix _ _ i.in_order (omega (arith, i.below, shop_length shop (shop_passes ix))) ∙ rw (start_is at e, end_is, add-one) refl in
+        let behind : rows_in rs ≡ span rows (suc (get_or (bounds rows) (k - 1) 0)) (get_or (bounds rows) (suc (k - 1)) 0) =
+        r.rows_are order
+        ∙ rows_of ix _ _ (omega (arith, start_is at e, end_is, w.0)) (omega (arith, end_is, w.1))
+        ∙ rw (start_is at e, end_is, add-one) refl in
         let is = action_span shop (shop_passes ix) (k - 1) (omega arith) ∙ ap action_of (span_cons rows _ _ (row 0 0) f.0 w.0) in
         record {
-          lies = r.lies;
           needs =
               ap (literals Tag.needs_true Tag.needs_false) behind
               ∙ sym (behind_head Tag.needs_true Tag.needs_false (omega arith) (omega arith) _ _ f.1)

@@ -1,6 +1,10 @@
 -- Where the parts of a sheet stand: the numbers of the rows at which they start and end, and the rows, tags and values from one
 -- row to another. Document 01, "The three sheets".
 use Rattle.std.specs.Prelude.{ℕ, suc, ◌+◌, ◌-◌, ◌<◌, ◌≤◌, ◌≡◌, Bool, cond, ◌&&◌, ◌||◌, leb, length, take, drop}
+use Rattle.std.specs.declared.iter.Zip.{Zip}
+use Rattle.std.specs.declared.slice.Iter.{Iter}
+use Rattle.std.specs.Iterator.Adapters.{zip_first, zip_second}
+use Rattle.std.specs.Slice.Iter.{iter_rest}
 use mathlib.Core.List.{List, [], ◌∷◌, ◌++◌, zip_with}
 use Rattle.hgn.specs.Lists.{take_until}
 use Rattle.hgn.specs.Rows.{Row, row, has, rows_of, most_rows}
@@ -12,7 +16,7 @@ use Rattle.sheet_rows.specs.declared.position.Sheet.{Sheet}
 use Rattle.sheet_rows.specs.declared.position.Sheet.TheVariants as Of
 use Rattle.sheet_check.specs.declared.rows.Layout.{Layout}
 use Rattle.sheet_index.specs.declared.index.Span.{Span}
-use Rattle.sheet_index.specs.declared.index.Part.{Part}
+use Rattle.sheet_index.specs.declared.rows.Rows.{Rows}
 
 -- The row begins an action, a method or a node.
 abbrev pub begins_span : Row → Bool
@@ -88,12 +92,12 @@ unfoldable pub span_rows : List ℕ → List ℕ → Span → List Row
 unfolding zip_with
 span_rows shop order s = zip_with row (tags_of s shop order) (values_of s shop order)
 
--- The rows of a part of these words.
-unfoldable pub part_rows : List ℕ → Part → List Row
+-- The rows whose tags and values are lent.
+unfoldable pub rows_in : Rows → List Row
 unfolding zip_with
-part_rows words p = zip_with row (take p.rows (drop p.tags words)) (take p.rows (drop p.values words))
+rows_in rs = zip_with row rs.tags.now rs.values.now
 
--- Every row of the part has its tag and its value among the words.
-pub record Lies (words : List ℕ) (p : Part) : Type 0 where
-  pub tags_end : p.tags + p.rows ≤ length words
-  pub values_end : p.values + p.rows ≤ length words
+-- The rows that an iterator over tags and values has still to give.
+unfoldable pub rows_left : Zip (Iter ℕ) (Iter ℕ) → List Row
+unfolding zip_with
+rows_left it = zip_with row (iter_rest (zip_first it)) (iter_rest (zip_second it))

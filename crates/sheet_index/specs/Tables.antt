@@ -6,12 +6,12 @@ use Rattle.hgn.specs.Rows.{most_rows}
 use Rattle.hgn.specs.Tag as Tag
 use Rattle.hgn.specs.Meaning.{Node, literals, node_of, goal_of}
 use Rattle.hgn.specs.Run.{action_at, method_at}
-use Rattle.hgn.specs.Shop.{most_nodes, size_words, domain, row_count, action_count, method_count, shop_rows}
+use Rattle.hgn.specs.Shop.{most_nodes, domain, row_count, action_count, method_count, shop_rows}
 use Rattle.hgn.specs.Order.{check_order}
 use Rattle.sheet_rows.specs.declared.position.Sheet.{Sheet}
 use Rattle.sheet_rows.specs.declared.position.Sheet.TheVariants as Of
-use Rattle.sheet_index.specs.Index.{starts, ends, starts_in, span_of, span_rows, part_rows, Lies}
-use Rattle.sheet_index.specs.declared.index.Part.{Part}
+use Rattle.sheet_index.specs.Index.{starts, ends, starts_in, span_of, span_rows, rows_in}
+use Rattle.sheet_index.specs.declared.rows.Rows.{Rows}
 use Rattle.sheet_index.specs.declared.operators.Nodes.{Nodes}
 use Rattle.sheet_index.specs.declared.operators.MethodRows.{MethodRows}
 
@@ -21,22 +21,14 @@ pub record Indexed (shop order table : List ℕ) : Type 0 where
   pub ends_are : take (row_count shop) table ≡ ends 0 (shop_rows shop)
   pub starts_are : take (suc (action_count shop + method_count shop)) (starts_in table) ≡ starts 0 (shop_rows shop) ++ (row_count shop ∷ [])
 
--- The shop sheet has the rows `from` up to `to`.
-pub record Inside (shop : List ℕ) (from to : ℕ) : Type 0 where
-  pub in_order : from ≤ to
-  pub below : to ≤ row_count shop
-  pub fits : size_words + (row_count shop + row_count shop) ≤ length shop
+-- These are the rows `from` up to `to` of the shop sheet, whatever the order.
+pub record HasRows (shop : List ℕ) (from to : ℕ) (rs : Rows) : Type 0 where
+  pub rows_are : (order : List ℕ) → rows_in rs ≡ span_rows shop order (span_of Of.Shop from to)
 
--- The part has the rows `from` up to `to` of the shop sheet, whatever the order.
-pub record HasRows (shop : List ℕ) (from to : ℕ) (p : Part) : Type 0 where
-  pub lies : Lies shop p
-  pub rows_are : (order : List ℕ) → part_rows shop p ≡ span_rows shop order (span_of Of.Shop from to)
-
--- The part has the needs and the effects of action `k`.
-pub record ActionIn (shop : List ℕ) (k : ℕ) (p : Part) : Type 0 where
-  pub lies : Lies shop p
-  pub needs : literals Tag.needs_true Tag.needs_false (part_rows shop p) ≡ (action_at (domain shop) k).needs
-  pub effects : literals Tag.makes_true Tag.makes_false (part_rows shop p) ≡ (action_at (domain shop) k).effects
+-- They have the needs and the effects of action `k`.
+pub record ActionIn (shop : List ℕ) (k : ℕ) (rs : Rows) : Type 0 where
+  pub needs : literals Tag.needs_true Tag.needs_false (rows_in rs) ≡ (action_at (domain shop) k).needs
+  pub effects : literals Tag.makes_true Tag.makes_false (rows_in rs) ≡ (action_at (domain shop) k).effects
 
 -- The rows of a node.
 pub record Bounds : Type 0 where

@@ -7,11 +7,12 @@ ghost use Rattle.hgn.specs.Run.{action_at};
 ghost use Rattle.hgn.specs.Shop.{domain, action_count, method_count, shop_rows};
 ghost use Rattle.sheet_rows.specs.declared.position.Sheet.TheVariants as Of;
 ghost use Rattle.sheet_index.specs.Index.{span_of, span_rows};
-ghost use Rattle.sheet_index.specs.Tables.{Indexed, Inside, HasRows, ActionIn, Bounds, Walk, NodesCounted, MethodAt};
+ghost use Rattle.sheet_index.specs.Tables.{Indexed, ActionIn, Bounds, Walk, NodesCounted, MethodAt};
 
-use crate::index::{Part, Span, Tables};
-use sheet_check::check::Shop;
-use sheet_check::rows::{Layout, Row, word};
+use crate::index;
+use crate::index::{Span, Tables};
+use crate::rows::Rows;
+use sheet_check::rows::{Row, word};
 use sheet_check::sizes::ShopSizes;
 use sheet_rows::position::Sheet;
 
@@ -37,44 +38,8 @@ impl Span {
     {
         Span {
             sheet: Sheet::Shop,
-            from: from,
-            to: to,
-        }
-    }
-}
-
-impl Part {
-    // Rows `from` up to `to` of the shop sheet, which has them.
-    fn inside(shop: &[u16], from: Row, to: Row) -> Part
-        requires { Inside shop.now from.0 to.0 }
-        ensures { HasRows shop.now from.0 to.0 result }
-    {
-        let rows = word(shop, ShopSizes::ROWS) as usize;
-        let start = from.0 as usize;
-        let end = to.0 as usize;
-        Part {
-            tags: Shop::SIZES + start,
-            values: Shop::SIZES + rows + start,
-            rows: end - start,
-        }
-    }
-
-    // Rows `from` up to `to` of the shop sheet; none where it has no such rows.
-    pub fn of_shop(shop: &[u16], from: Row, to: Row) -> Part
-        ensures { HasRows shop.now from.0 to.0 result }
-    {
-        let rows = word(shop, ShopSizes::ROWS) as usize;
-        if from.0 <= to.0 {
-            if to.0 as usize <= rows {
-                if Shop::SIZES + (rows + rows) <= shop.len() {
-                    return Part::inside(shop, from, to);
-                }
-            }
-        }
-        Part {
-            tags: 0,
-            values: 0,
-            rows: 0,
+            from,
+            to,
         }
     }
 }
@@ -86,20 +51,16 @@ pub fn operator_rows(tables: &[u16], operator: u16) -> Span
         → span_rows shop order result ≡ get_or (split_at_each begins_operator (shop_rows shop)) operator [] }
 {
     let at = Tables::STARTS + operator as usize;
-    let from = Row(tables[at]);
-    let to = Row(tables[at + 1]);
-    Span::of_shop(from, to)
+    Span::of_shop(Row(tables[at]), Row(tables[at + 1]))
 }
 
 // The rows of an action behind its first, by its number, from 1: its needs and its effects.
-pub fn action_part(shop: &[u16], tables: &[u16], action: u16) -> Part
+pub fn action_part<'a>(shop: &'a [u16], tables: &[u16], action: u16) -> Rows<'a>
     requires { (order : List ℕ) × Indexed shop.now order tables.now × (1 ≤ action) × (action ≤ action_count shop.now) }
     ensures { ActionIn shop.now action result }
 {
     let at = Tables::STARTS + action as usize;
-    let from = Row(tables[at - 1] + 1);
-    let to = Row(tables[at]);
-    Part::inside(shop, from, to)
+    Rows::of_shop(shop, Row(tables[at - 1] + 1), Row(tables[at]))
 }
 
 // The cost of an action by its number, from 1: the value of its first row.
@@ -108,13 +69,7 @@ pub fn action_cost(shop: &[u16], tables: &[u16], action: u16) -> u16
     ensures { result ≡ (action_at (domain shop.now) action).cost }
 {
     let at = Tables::STARTS + action as usize;
-    let row = Row(tables[at - 1]);
-    let rows = word(shop, ShopSizes::ROWS) as usize;
-    let layout = Layout {
-        sizes: Shop::SIZES,
-        rows: rows,
-    };
-    layout.value(shop, row)
+    index::layout_of(Sheet::Shop, shop).value(shop, Row(tables[at - 1]))
 }
 
 // The rows of a method by its number, from 0: the methods stand behind the actions.
@@ -125,12 +80,10 @@ pub fn method_rows(shop: &[u16], tables: &[u16], method: u16) -> MethodRows
     let actions = word(shop, ShopSizes::ACTIONS) as usize;
     let at = Tables::STARTS + actions + method as usize;
     let from = tables[at];
-    let end = tables[at + 1];
-    let first = tables[from as usize];
     MethodRows {
         from: Row(from),
-        first: Row(first),
-        end: Row(end),
+        first: Row(tables[from as usize]),
+        end: Row(tables[at + 1]),
     }
 }
 
@@ -144,13 +97,12 @@ pub fn nodes_between(tables: &[u16], first: Row, end: Row) -> Nodes
     let mut last = first.0;
     let mut row = first.0;
     while row < stop {
-        let at = row as usize;
         last = row;
         count += 1;
-        row = tables[at];
+        row = tables[row as usize];
     }
     Nodes {
-        count: count,
+        count,
         last: Row(last),
     }
 }

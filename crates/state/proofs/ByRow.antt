@@ -1,6 +1,6 @@
 -- The literals of the rows with two tags, and the values of those with one, row by row. Assumes nothing.
 use Prim.Native.Nat.{ℕ, ◌≤◌}
-use mathlib.Core.Path.{◌≡◌, refl, ap, ◌∙◌}
+use mathlib.Core.Path.{◌≡◌, refl, sym, ap, ◌∙◌}
 use mathlib.Core.Bool.{Bool, true, false, cond, ◌&&◌, and-true}
 use mathlib.Core.List.{List, [], ◌∷◌, ◌++◌}
 use lib.ListN.{length, set}
@@ -8,7 +8,7 @@ use lib.Seq.{set_out}
 use borrow.Author.Tests.{eq-eqb, ne_eqb}
 use Rattle.hgn.specs.Lists.{all}
 use Rattle.hgn.specs.Rows.{Row, row, has, values_tagged}
-use Rattle.hgn.specs.Meaning.{literals}
+use Rattle.hgn.specs.Meaning.{Literal, literals}
 use Rattle.hgn.specs.State.{State, assign, literal_holds, all_hold, unmet}
 use Rattle.hgn.proofs.Logic.Tests.{all_append}
 use Rattle.state.specs.Effects.{set_each}
@@ -48,6 +48,10 @@ module _ (t f : ℕ) where
       go true b = refl
       go false true = refl
       go false false = refl
+
+  -- The row's own literals are these, one or none.
+  pub row_literals : (r : Row) (rs : List Row) {ls : List Literal} → ls ≡ literals t f (r ∷ []) → literals t f (r ∷ rs) ≡ ls ++ literals t f rs
+  row_literals r rs e = first_row_law r rs ∙ ap (λ (own : List Literal). own ++ literals t f rs) (sym e)
 
   -- What is told of a row decides of it and the rows after it, or leaves it to those.
   module _ {told : Bool} (r : Row) (rs : List Row) where
@@ -91,21 +95,13 @@ module _ (b : Bool) (tag : ℕ) (s : State) (t v : ℕ) (rs : List Row) where
 abbrev pub set_in : ℕ → ℕ → State → List Row → State
 set_in t f s rs = set_each (literals t f rs) s
 
-module _ (t f : ℕ) (s : State) {tag : ℕ} (value : ℕ) (rs : List Row) where
-  pub set_true : tag ≡ t → set_in t f s (row tag value ∷ rs) ≡ set_in t f (set s value true) rs
+module _ (t f : ℕ) (s : State) (r : Row) (rs : List Row) where
+  pub set_row : (l : Literal) → l ∷ [] ≡ literals t f (r ∷ []) → set_in t f s (r ∷ rs) ≡ set_in t f (set s l.atom l.sign) rs
   unfolding set_each
-  set_true e = rw (true_row t f value rs e)
+  set_row l e = rw (row_literals t f r rs e)
 
-  pub set_false : (tag ≡ t → ⊥) → tag ≡ f → set_in t f s (row tag value ∷ rs) ≡ set_in t f (set s value false) rs
-  unfolding set_each
-  set_false d e = rw (false_row t f value rs d e)
+  pub set_no_row : [] ≡ literals t f (r ∷ []) → set_in t f s (r ∷ rs) ≡ set_in t f s rs
+  set_no_row e = rw (row_literals t f r rs e)
 
-  pub set_neither : (tag ≡ t → ⊥) → (tag ≡ f → ⊥) → set_in t f s (row tag value ∷ rs) ≡ set_in t f s rs
-  set_neither d e = rw (no_row t f value rs d e)
-
-  module _ (h : length s ≤ value) where
-    pub set_no_atom_true : tag ≡ t → set_in t f s (row tag value ∷ rs) ≡ set_in t f s rs
-    set_no_atom_true e = set_true e ∙ ap (set_each (literals t f rs)) (set_out s value true h)
-
-    pub set_no_atom_false : (tag ≡ t → ⊥) → tag ≡ f → set_in t f s (row tag value ∷ rs) ≡ set_in t f s rs
-    set_no_atom_false d e = set_false d e ∙ ap (set_each (literals t f rs)) (set_out s value false h)
+  pub set_no_atom : (l : Literal) → l ∷ [] ≡ literals t f (r ∷ []) → length s ≤ l.atom → set_in t f s (r ∷ rs) ≡ set_in t f s rs
+  set_no_atom l e h = set_row l e ∙ ap (set_each (literals t f rs)) (set_out s l.atom l.sign h)

@@ -1,6 +1,9 @@
 -- The formula of a node's rows, one row at a time: does it hold, which atom is not as wanted, are effects relevant to it? Assumes nothing.
 use Prim.Native.Nat.{ℕ}
 use mathlib.Core.Path.{◌≡◌, refl, sym, ap, ◌∙◌}
+use Rattle.std.proofs.Common.{Option, Some, None}
+use Rattle.std.specs.Prelude.{unwrap_or}
+use Rattle.std.specs.Option.{option_or}
 use mathlib.Core.Bool.{Bool, true, false, cond, not, ◌&&◌, ◌||◌, and-false, or-true}
 use mathlib.Core.List.{List, [], ◌∷◌, ◌++◌, head_d, map, flatten, append_assoc}
 use borrow.Author.Tests.{eqb-true, ne_eqb}
@@ -10,6 +13,7 @@ use Rattle.hgn.specs.Tag.{alternative, wanted_true, wanted_false}
 use Rattle.hgn.specs.Meaning.{Literal, literals, node_of}
 use Rattle.hgn.specs.State.{State, no_atom, all_hold, formula_holds, unmet, unmet_goal, opposite, contains, relevant}
 use Rattle.hgn.proofs.Logic.Tests.{any_append}
+use Rattle.sheet_rows.specs.declared.position.Atom.{Atom}
 use Rattle.state.specs.Effects.{met_of}
 use Rattle.state.specs.declared.literals.Met.{Met}
 use Rattle.state.specs.declared.literals.Met.TheVariants.{Opposite, Same, Neither}
@@ -30,35 +34,39 @@ first_from : Bool → List Row → List Literal
 unfolding head_d
 first_from so_far rs = cond so_far (wanted (take_until (has alternative) rs)) (head_d (node_of rs).formula [])
 
--- What a formula tells (`goal_told`), from these rows on; `a` is the atom of the first row that was not as wanted, if one `failed`.
-pub told_from : State → Bool → Bool → ℕ → List Row → Bool × ℕ
-told_from s so_far failed a rs = (holds_from s so_far rs, cond (holds_from s so_far rs) no_atom (cond failed a (unmet s (first_from so_far rs))))
+-- The first atom that is not as wanted: one that was before, or else this.
+abbrev pub first_unmet : Option Atom → ℕ → ℕ
+first_unmet before a = (unwrap_or before (record { 0 = a })).0
+
+-- What a formula tells (`goal_told`), from these rows on, where `before` is the atom of the first row that was not as wanted.
+pub told_from : State → Bool → Option Atom → List Row → Bool × ℕ
+told_from s so_far before rs = (holds_from s so_far rs, cond (holds_from s so_far rs) no_atom (first_unmet before (unmet s (first_from so_far rs))))
 
 module _ (s : State) where
-  pub told_from_law : (a : ℕ) (rs : List Row) → goal_told s (node_of rs).formula ≡ told_from s false false a rs
+  pub told_from_law : (rs : List Row) → goal_told s (node_of rs).formula ≡ told_from s false None rs
   unfolding told_from holds_from first_from unmet_goal head_d
-  told_from_law a rs = refl
+  told_from_law rs = refl
 
   -- Past the last row the alternative at hand holds, or the first atom is told.
-  pub end_holds : {so_far : Bool} (failed : Bool) (a : ℕ) → so_far ≡ true → told_from s so_far failed a [] ≡ (true, no_atom)
-  unfolding told_from holds_from wanted take_until literals all_hold all
-  end_holds failed a e = rw e
+  module _ {so_far : Bool} (before : Option Atom) where
+    pub end_holds : so_far ≡ true → told_from s so_far before [] ≡ (true, no_atom)
+    unfolding told_from holds_from wanted take_until literals all_hold all
+    end_holds e = rw e
 
-  pub end_fails : {so_far : Bool} (failed : Bool) (a : ℕ) → so_far ≡ false → (failed ≡ false → a ≡ no_atom) → told_from s so_far failed a [] ≡ (false, a)
-  unfolding told_from holds_from first_from head_d node_of split_at_each formula_holds any unmet
-  end_fails true a e h = rw e
-  end_fails false a e h = rw (e, h refl)
+    pub end_fails : so_far ≡ false → told_from s so_far before [] ≡ (false, first_unmet before no_atom)
+    unfolding told_from holds_from first_from head_d node_of split_at_each formula_holds any unmet
+    end_fails e = rw e
 
-  module _ (failed : Bool) (a t v : ℕ) (rs : List Row) where
-    pub told_held : t ≡ alternative → told_from s true failed a (row t v ∷ rs) ≡ (true, no_atom)
+  module _ (before : Option Atom) (t v : ℕ) (rs : List Row) where
+    pub told_held : t ≡ alternative → told_from s true before (row t v ∷ rs) ≡ (true, no_atom)
     unfolding told_from holds_from wanted take_until literals all_hold all
     told_held e = rw e
 
-    pub told_begun : t ≡ alternative → told_from s false failed a (row t v ∷ rs) ≡ told_from s true failed a rs
+    pub told_begun : t ≡ alternative → told_from s false before (row t v ∷ rs) ≡ told_from s true before rs
     unfolding told_from holds_from first_from head_d wanted node_of split_at_each literals formula_holds any
     told_begun e = rw e
 
-    pub told_still_none : (t ≡ alternative → ⊥) → told_from s false failed a (row t v ∷ rs) ≡ told_from s false failed a rs
+    pub told_still_none : (t ≡ alternative → ⊥) → told_from s false before (row t v ∷ rs) ≡ told_from s false before rs
     unfolding told_from holds_from first_from head_d node_of split_at_each
     told_still_none d = rw (ne_eqb t alternative d)
 
@@ -74,23 +82,19 @@ module _ (s : State) where
       unfolding first_from wanted take_until
       first_of = rw (ne_eqb t alternative d) (unmet_first wanted_true wanted_false (row t v) (take_until (has alternative) rs) s e)
 
-      pub told_on : told ≡ true → told_from s true failed a (row t v ∷ rs) ≡ told_from s true failed a rs
+      pub told_on : told ≡ true → told_from s true before (row t v ∷ rs) ≡ told_from s true before rs
       unfolding told_from
       told_on h = rw (gone_on, first_of, h)
 
-      module _ (h : told ≡ false) where
-        pub told_first : failed ≡ false → told_from s true failed a (row t v ∷ rs) ≡ told_from s false true v rs
-        unfolding told_from
-        told_first f = rw (gone_on, first_of, h, f)
-
-        pub told_later : failed ≡ true → told_from s true failed a (row t v ∷ rs) ≡ told_from s false failed a rs
-        unfolding told_from
-        told_later f = rw (gone_on, h, f)
-
--- What a walk over a node's rows knows before the rows that are left.
-pub record Remembered (s : State) (rows : List Row) (so_far failed : Bool) (a : ℕ) (rest : List Row) : Type 0 where
-  pub told : goal_told s (node_of rows).formula ≡ told_from s so_far failed a rest
-  pub unnamed : failed ≡ false → a ≡ no_atom
+      pub told_unmet : told ≡ false → told_from s true before (row t v ∷ rs) ≡ told_from s false (option_or before (Some (record { 0 = v }))) rs
+      unfolding told_from
+      told_unmet h =
+          rw (gone_on, first_of, h)
+          (ap (λ (a : ℕ). (holds_from s false rs, cond (holds_from s false rs) no_atom a)) (go before (unmet s (first_from false rs))))
+        where
+          go : (o : Option Atom) (n : ℕ) → first_unmet o v ≡ first_unmet (option_or o (Some (record { 0 = v }))) n
+          go None n = refl
+          go (Some a) n = refl
 
 -- The literals of the formula in these rows: from the first 8 on, or all where an alternative is at hand.
 wanted_from : Bool → List Row → List Literal

@@ -1,5 +1,4 @@
 -- Laws of the definitions in the shape that the code asks for.
-pub mod Walks
 pub mod ByRow
 pub mod Tests
 pub mod Meetings

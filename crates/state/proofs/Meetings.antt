@@ -2,9 +2,9 @@
 use Prim.Native.Nat.{ℕ}
 use native.Mathlib.Omega.{arith}
 use mathlib.Core.Path.{◌≡◌, refl, sym, ap, ◌∙◌}
-use mathlib.Core.Bool.{Bool, true, false, cond, ◌||◌, or-true, or-false}
+use mathlib.Core.Bool.{Bool, true, false, true≢false, cond, ◌||◌, or-false, beq}
 use mathlib.Core.List.{List, [], ◌∷◌}
-use borrow.Author.Tests.{ne_eqb}
+use borrow.Author.Tests.{eq-eqb, ne_eqb}
 use Rattle.hgn.specs.Lists.{any}
 use Rattle.hgn.specs.Rows.{Row}
 use Rattle.hgn.specs.Meaning.{Literal, literals}
@@ -53,24 +53,39 @@ other_atom true false d = rw (ne_eqb _ _ d)
 other_atom false true d = rw (ne_eqb _ _ d)
 other_atom false false d = rw (ne_eqb _ _ d)
 
--- The same literal may have been met before the effects at hand.
-pub met_from : Bool → List Literal → Literal → Met
-met_from same effects l = cond (contains effects (opposite l)) Opposite (cond (same || contains effects l) Same Neither)
+-- One on its atom is the literal or its opposite, as the signs are the same or not.
+module _ {v w : ℕ} where
+  pub same_sign : (own sign : Bool) → v ≡ w → beq own sign ≡ true → Same ≡ met_of (record { sign = own; atom = v } ∷ []) (record { sign = sign; atom = w } ∷ [])
+  unfolding met_of contains any
+  same_sign true true e h = rw (eq-eqb _ _ e)
+  same_sign true false e h = absurd (true≢false (sym h))
+  same_sign false true e h = absurd (true≢false (sym h))
+  same_sign false false e h = rw (eq-eqb _ _ e)
 
-abbrev pub met_in : Literal → ℕ → ℕ → Bool → List Row → Met
-met_in l t f same rs = met_from same (literals t f rs) l
+  pub other_sign : (own sign : Bool) → v ≡ w → beq own sign ≡ false → Opposite ≡ met_of (record { sign = own; atom = v } ∷ []) (record { sign = sign; atom = w } ∷ [])
+  unfolding met_of contains any
+  other_sign true true e h = absurd (true≢false h)
+  other_sign true false e h = rw (eq-eqb _ _ e)
+  other_sign false true e h = rw (eq-eqb _ _ e)
+  other_sign false false e h = absurd (true≢false h)
+
+-- What was met before the effects at hand, if they do nothing.
+pub met_from : Met → List Literal → Literal → Met
+met_from before effects l = cond (contains effects (opposite l)) Opposite (cond (contains effects l) Same before)
+
+abbrev pub met_in : Literal → ℕ → ℕ → Met → List Row → Met
+met_in l t f before rs = met_from before (literals t f rs) l
 
 module _ (l : Literal) where
-  pub met_from_law : (effects : List Literal) → met_of effects (l ∷ []) ≡ met_from false effects l
+  pub met_from_law : (effects : List Literal) → met_of effects (l ∷ []) ≡ met_from Neither effects l
   unfolding met_of met_from any
   met_from_law effects = rw (or-false (contains effects (opposite l)), or-false (contains effects l))
 
-  pub met_so_far : (same : Bool) → met_from same [] l ≡ cond same Same Neither
+  pub met_so_far : (before : Met) → met_from before [] l ≡ before
   unfolding met_from contains any
-  met_so_far true = refl
-  met_so_far false = refl
+  met_so_far before = refl
 
-  module _ (t f : ℕ) (r : Row) (rs : List Row) (same : Bool) where
+  module _ (t f : ℕ) (r : Row) (rs : List Row) (before : Met) where
     abbrev own : List Literal
     own = literals t f (r ∷ [])
 
@@ -82,17 +97,22 @@ module _ (l : Literal) where
     unfolding any
     one test e = sym (or-false (test l)) ∙ e
 
-    pub first_opposed : met_of own (l ∷ []) ≡ Opposite → met_in l t f same (r ∷ rs) ≡ Opposite
+    pub first_opposed : met_of own (l ∷ []) ≡ Opposite → met_in l t f before (r ∷ rs) ≡ Opposite
     unfolding met_from
     first_opposed m = rw (either (opposite l), one (λ k. contains own (opposite k)) (opposed own (l ∷ []) m))
 
-    pub first_helped : met_of own (l ∷ []) ≡ Same → met_in l t f same (r ∷ rs) ≡ met_in l t f true rs
+    pub first_helped : met_of own (l ∷ []) ≡ Same → met_in l t f before (r ∷ rs) ≡ met_in l t f Same rs
     unfolding met_from
     first_helped m =
         let h = helped own (l ∷ []) m in
-        rw (either (opposite l), one (λ k. contains own (opposite k)) h.0, either l, one (contains own) h.1, or-true)
+        rw (either (opposite l), one (λ k. contains own (opposite k)) h.0, either l, one (contains own) h.1)
+        (go (contains (literals t f rs) (opposite l)) (contains (literals t f rs) l))
+      where
+        go : (x y : Bool) → cond x Opposite Same ≡ cond x Opposite (cond y Same Same)
+        go x true = refl
+        go x false = refl
 
-    pub first_untouched : met_of own (l ∷ []) ≡ Neither → met_in l t f same (r ∷ rs) ≡ met_in l t f same rs
+    pub first_untouched : met_of own (l ∷ []) ≡ Neither → met_in l t f before (r ∷ rs) ≡ met_in l t f before rs
     unfolding met_from
     first_untouched m =
         let h = untouched own (l ∷ []) m in

@@ -1,14 +1,14 @@
 -- What effects do, one after the other and by how their atoms are wanted; and what rows want, row by row, by marks, and from the first 8 on.
 -- Assumes nothing.
-use Prim.Native.Nat.{ℕ, zero, suc, ◌+◌, ◌-◌, ◌<◌, ◌≤◌, min}
+use Prim.Native.Nat.{ℕ, ◌<◌, ◌≤◌}
 use native.Mathlib.Omega.{arith}
 use mathlib.Core.Path.{◌≡◌, refl, sym, ap, ap₂, ◌∙◌}
 use mathlib.Core.Bool.{Bool, true, false, true≢false, cond, ◌&&◌, ◌||◌, or_assoc, or-true, or-false, and-true, and-false, beq}
-use mathlib.Core.List.{List, [], ◌∷◌, ◌++◌, map, zip_with, flatten, append_assoc}
+use mathlib.Core.List.{List, [], ◌∷◌, ◌++◌, map, flatten, append_assoc}
 use mathlib.Core.Option.{Option, none, some}
 use lib.Dec.{eqb}
-use lib.ListN.{length, length-drop, get_or, set, length-set, take, drop, replicate, length-replicate, get_or-replicate}
-use lib.Seq.{drop-nil, take_all, lt-length-set, get_or-set_same, get_or-set_other}
+use lib.ListN.{length, get_or, set, length-set, drop, replicate, length-replicate, get_or-replicate}
+use lib.Seq.{lt-length-set, get_or-set_same, get_or-set_other}
 use borrow.Author.Tests.{eqb-true, eqb-false, eq-eqb, ne_eqb}
 use Rattle.hgn.specs.Lists.{any, find, take_until, drop_until, split_at_each}
 use Rattle.hgn.specs.Rows.{Row, row, has, values_tagged}
@@ -17,12 +17,10 @@ use Rattle.hgn.specs.Meaning.{Literal, literals, node_of}
 use Rattle.hgn.specs.State.{State, most_atoms, empty_state, assign, opposite, literal_holds, contains}
 use Rattle.hgn.specs.Relevance.{Relevance, blocked, helping, neither, relevance}
 use Rattle.hgn.proofs.Logic.Relevance.{told}
-use Rattle.sheet_index.specs.declared.index.Part.{Part}
-use Rattle.sheet_index.specs.Index.{part_rows}
 use Rattle.state.specs.declared.literals.LiteralTags.{LiteralTags}
-use Rattle.state.specs.Relevances.{followed, effect_met_by, wanted_in, effects_in, NextEffect, Marked}
-use Rattle.state.proofs.Walks.{by_row, at_end, Ahead, row_inside, row_next, row_none}
-use Rattle.state.proofs.ByRow.{true_row, false_row, no_row, first_row_law, assigned_in, assigned_first, assigned_other, assigned_none}
+use Rattle.state.specs.Relevances.{followed, effect_met_by, wanted_in, effects_in, Marked}
+use Rattle.sheet_index.proofs.Columns.{by_rows}
+use Rattle.state.proofs.ByRow.{no_row, first_row_law, assigned_in, assigned_first, assigned_other, assigned_none}
 
 abbrev literal : Bool → ℕ → Literal
 literal b a = record { sign = b; atom = a }
@@ -79,13 +77,9 @@ module _ (wanted : List Literal) where
   unfolding relevance find
   none_meet e = rw e
 
-  -- The effects are these, one after the other.
-  module _ {ls rest : List Literal} {d e : Literal} (first : ls ≡ d ∷ rest) (is : e ≡ d) where
-    pub one_alone : rest ≡ [] → relevance (e ∷ []) wanted ≡ relevance ls wanted
-    one_alone end = ap (λ (k : List Literal). relevance k wanted) (sym (first ∙ rw (end, is)))
-
-    pub two_alone : {later : List Literal} {f g : Literal} → rest ≡ f ∷ later → g ≡ f → later ≡ [] → relevance (e ∷ g ∷ []) wanted ≡ relevance ls wanted
-    two_alone second same end = ap (λ (k : List Literal). relevance k wanted) (sym (first ∙ rw (second, end, is, same)))
+  -- The effects are these two, one after the other.
+  pub two_alone : {ls rest later : List Literal} {d f : Literal} → ls ≡ d ∷ rest → rest ≡ f ∷ later → later ≡ [] → relevance (d ∷ f ∷ []) wanted ≡ relevance ls wanted
+  two_alone first second end = ap (λ (k : List Literal). relevance k wanted) (sym (first ∙ rw (second, end)))
 
   -- The effect of a row, if it has one, then those of the rows after it.
   effects_row : (signs : LiteralTags) (r : Row) (rs : List Row)
@@ -119,34 +113,6 @@ module _ (wanted : List Literal) where
   pub told_all : (signs : LiteralTags) (so_far : Relevance) → told_from signs so_far [] ≡ so_far
   unfolding literals
   told_all signs so_far = ap (followed so_far) (sym (none_meet refl)) ∙ followed_none so_far
-
--- The next row with an effect.
-
-module _ {words : List ℕ} {p : Part} (signs : LiteralTags) (from i : ℕ)
-    (a : Ahead words p (effects_in signs (drop from (part_rows words p))) (effects_in signs) i) where
-  module _ (inside : i < p.rows) where
-    pub effect_true : get_or words (p.tags + i) 0 ≡ signs.positive → NextEffect words p signs from i
-    effect_true e = record {
-      found = λ h. row_inside a inside (true_row signs.positive signs.negative _ _ e ∙ rw (eq-eqb _ _ e));
-      none = λ h. absurd (omega arith);
-    }
-
-    pub effect_false : (get_or words (p.tags + i) 0 ≡ signs.positive → ⊥) → get_or words (p.tags + i) 0 ≡ signs.negative → NextEffect words p signs from i
-    effect_false d e = record {
-      found = λ h. row_inside a inside (false_row signs.positive signs.negative _ _ d e ∙ rw (ne_eqb _ _ d));
-      none = λ h. absurd (omega arith);
-    }
-
-    pub effect_later : (get_or words (p.tags + i) 0 ≡ signs.positive → ⊥) → (get_or words (p.tags + i) 0 ≡ signs.negative → ⊥)
-        → Ahead words p (effects_in signs (drop from (part_rows words p))) (effects_in signs) (i + 1)
-    effect_later d e = row_next a inside (no_row signs.positive signs.negative _ _ d e)
-
-  pub effect_none : p.rows ≤ i → NextEffect words p signs from p.rows
-  unfolding literals
-  effect_none h = record {
-    found = λ k. absurd (omega arith);
-    none = λ k. row_none a h refl;
-  }
 
 -- What rows want.
 
@@ -192,24 +158,22 @@ pub record Seen (rows : List Row) (a : ℕ) (positive negative : Bool) (rest : L
   pub wanted_true_marked : contains (wanted_in rows) (literal true a) ≡ wanted_from true a positive rest
   pub wanted_false_marked : contains (wanted_in rows) (literal false a) ≡ wanted_from false a negative rest
 
-module _ (tags values : List ℕ) (a : ℕ) (positive negative : Bool) (i n : ℕ) (count : n ≡ min (length tags) (length values))
-    (seen : Seen (zip_with row tags values) a positive negative (drop i (zip_with row tags values))) where
-  -- Row `i` is compared with the atom.
-  pub seen_row : i < n → {here other : Bool} → here ≡ (eqb (get_or values i 0) a && eqb (get_or tags i 0) wanted_true)
-      → other ≡ (eqb (get_or values i 0) a && eqb (get_or tags i 0) wanted_false)
-      → Seen (zip_with row tags values) a (positive || here) (negative || other) (drop (i + 1) (zip_with row tags values))
-  seen_row h e f = record {
-    wanted_true_marked = by_row (wanted_from true a positive) tags values i n count seen.wanted_true_marked h (wanted_on true a positive (get_or tags i 0) (get_or values i 0) _ e);
-    wanted_false_marked = by_row (wanted_from false a negative) tags values i n count seen.wanted_false_marked h (wanted_on false a negative (get_or tags i 0) (get_or values i 0) _ f);
+module _ {rows rest : List Row} {a : ℕ} {positive negative : Bool} (seen : Seen rows a positive negative rest) where
+  -- The next row is compared with the atom.
+  pub seen_row : (t v : ℕ) {rs : List Row} → rest ≡ row t v ∷ rs → {here other : Bool} → here ≡ (eqb v a && eqb t wanted_true) → other ≡ (eqb v a && eqb t wanted_false)
+      → Seen rows a (positive || here) (negative || other) rs
+  seen_row t v {rs} next e f = record {
+    wanted_true_marked = by_rows (wanted_from true a positive) seen.wanted_true_marked next (wanted_on true a positive t v rs e);
+    wanted_false_marked = by_rows (wanted_from false a negative) seen.wanted_false_marked next (wanted_on false a negative t v rs f);
   }
 
   -- Past the last row it is known how the atom of an effect is wanted.
-  pub seen_all : n ≤ i → (e : Literal) → e.atom ≡ a → effect_met_by e positive negative ≡ relevance (e ∷ []) (wanted_in (zip_with row tags values))
-  seen_all h e is =
+  pub seen_all : rest ≡ [] → (e : Literal) → e.atom ≡ a → effect_met_by e positive negative ≡ relevance (e ∷ []) (wanted_in rows)
+  seen_all end e is =
       ap₂ (effect_met_by e)
-      (sym (at_end (wanted_from true a positive) tags values i n count seen.wanted_true_marked h (wanted_none true a positive)))
-      (sym (at_end (wanted_from false a negative) tags values i n count seen.wanted_false_marked h (wanted_none false a negative)))
-      ∙ rw (← is) (sym (met_by (wanted_in (zip_with row tags values)) e))
+      (sym (by_rows (wanted_from true a positive) seen.wanted_true_marked end (wanted_none true a positive)))
+      (sym (by_rows (wanted_from false a negative) seen.wanted_false_marked end (wanted_none false a negative)))
+      ∙ rw (← is) (sym (met_by (wanted_in rows) e))
 
 -- An effect whose atom is wanted neither true nor false meets nothing.
 pub nothing_met : (e : Literal) (positive negative : Bool) → (positive || negative) ≡ false → effect_met_by e positive negative ≡ neither
@@ -279,51 +243,48 @@ pub record Marking (rows : List Row) (positive₀ negative₀ positive negative 
   pub positive_length : length positive ≡ length positive₀
   pub negative_length : length negative ≡ length negative₀
 
-module _ (tags values : List ℕ) (positive₀ negative₀ positive negative : State) (i n : ℕ) (count : n ≡ min (length tags) (length values))
-    (m : Marking (zip_with row tags values) positive₀ negative₀ positive negative (drop i (zip_with row tags values))) where
-  module _ (inside : i < n) where
-    -- Row `i` leaves these sets to the rows after it.
+module _ {rows rest : List Row} {positive₀ negative₀ positive negative : State} (m : Marking rows positive₀ negative₀ positive negative rest) where
+  module _ (t v : ℕ) {rs : List Row} (next : rest ≡ row t v ∷ rs) where
+    -- The next row leaves these sets to the rows after it.
     next_marks : {positive' negative' : State}
-        → assigned_in true wanted_true positive (row (get_or tags i 0) (get_or values i 0) ∷ drop (i + 1) (zip_with row tags values))
-        ≡ assigned_in true wanted_true positive' (drop (i + 1) (zip_with row tags values))
-        → assigned_in true wanted_false negative (row (get_or tags i 0) (get_or values i 0) ∷ drop (i + 1) (zip_with row tags values))
-        ≡ assigned_in true wanted_false negative' (drop (i + 1) (zip_with row tags values))
+        → assigned_in true wanted_true positive (row t v ∷ rs) ≡ assigned_in true wanted_true positive' rs
+        → assigned_in true wanted_false negative (row t v ∷ rs) ≡ assigned_in true wanted_false negative' rs
         → length positive' ≡ length positive → length negative' ≡ length negative
-        → Marking (zip_with row tags values) positive₀ negative₀ positive' negative' (drop (i + 1) (zip_with row tags values))
+        → Marking rows positive₀ negative₀ positive' negative' rs
     next_marks e f h k = record {
-      wanted_true_marked = by_row (assigned_in true wanted_true positive) tags values i n count m.wanted_true_marked inside e;
-      wanted_false_marked = by_row (assigned_in true wanted_false negative) tags values i n count m.wanted_false_marked inside f;
+      wanted_true_marked = by_rows (assigned_in true wanted_true positive) m.wanted_true_marked next e;
+      wanted_false_marked = by_rows (assigned_in true wanted_false negative) m.wanted_false_marked next f;
       positive_length = h ∙ m.positive_length;
       negative_length = k ∙ m.negative_length;
     }
 
-    module _ (e : get_or tags i 0 ≡ wanted_true) where
-      pub mark_true : Marking (zip_with row tags values) positive₀ negative₀ (set positive (get_or values i 0) true) negative (drop (i + 1) (zip_with row tags values))
-      mark_true = next_marks (assigned_first _ _ _ _ _ _ e) (assigned_other _ _ _ _ _ _ (λ z. omega arith)) (length-set positive (get_or values i 0) true) refl
+    module _ (e : t ≡ wanted_true) where
+      pub mark_true : Marking rows positive₀ negative₀ (set positive v true) negative rs
+      mark_true = next_marks (assigned_first _ _ _ _ _ _ e) (assigned_other _ _ _ _ _ _ (λ z. omega arith)) (length-set positive v true) refl
 
-      pub mark_no_true : length positive ≤ get_or values i 0 → Marking (zip_with row tags values) positive₀ negative₀ positive negative (drop (i + 1) (zip_with row tags values))
+      pub mark_no_true : length positive ≤ v → Marking rows positive₀ negative₀ positive negative rs
       mark_no_true h = next_marks (assigned_none _ _ _ _ _ _ e h) (assigned_other _ _ _ _ _ _ (λ z. omega arith)) refl refl
 
-    module _ (d : get_or tags i 0 ≡ wanted_true → ⊥) where
-      module _ (e : get_or tags i 0 ≡ wanted_false) where
-        pub mark_false : Marking (zip_with row tags values) positive₀ negative₀ positive (set negative (get_or values i 0) true) (drop (i + 1) (zip_with row tags values))
-        mark_false = next_marks (assigned_other _ _ _ _ _ _ d) (assigned_first _ _ _ _ _ _ e) refl (length-set negative (get_or values i 0) true)
+    module _ (d : t ≡ wanted_true → ⊥) where
+      module _ (e : t ≡ wanted_false) where
+        pub mark_false : Marking rows positive₀ negative₀ positive (set negative v true) rs
+        mark_false = next_marks (assigned_other _ _ _ _ _ _ d) (assigned_first _ _ _ _ _ _ e) refl (length-set negative v true)
 
-        pub mark_no_false : length negative ≤ get_or values i 0 → Marking (zip_with row tags values) positive₀ negative₀ positive negative (drop (i + 1) (zip_with row tags values))
+        pub mark_no_false : length negative ≤ v → Marking rows positive₀ negative₀ positive negative rs
         mark_no_false h = next_marks (assigned_other _ _ _ _ _ _ d) (assigned_none _ _ _ _ _ _ e h) refl refl
 
-      pub mark_none : (get_or tags i 0 ≡ wanted_false → ⊥) → Marking (zip_with row tags values) positive₀ negative₀ positive negative (drop (i + 1) (zip_with row tags values))
+      pub mark_none : (t ≡ wanted_false → ⊥) → Marking rows positive₀ negative₀ positive negative rs
       mark_none e = next_marks (assigned_other _ _ _ _ _ _ d) (assigned_other _ _ _ _ _ _ e) refl refl
 
   -- Past the last row the marks are there.
-  module _ (h : n ≤ i) where
-    pub marked_true : positive ≡ assigned_in true wanted_true positive₀ (zip_with row tags values)
+  module _ (end : rest ≡ []) where
+    pub marked_true : positive ≡ assigned_in true wanted_true positive₀ rows
     unfolding assign values_tagged
-    marked_true = sym (at_end (assigned_in true wanted_true positive) tags values i n count m.wanted_true_marked h refl)
+    marked_true = sym (by_rows (assigned_in true wanted_true positive) m.wanted_true_marked end refl)
 
-    pub marked_false : negative ≡ assigned_in true wanted_false negative₀ (zip_with row tags values)
+    pub marked_false : negative ≡ assigned_in true wanted_false negative₀ rows
     unfolding assign values_tagged
-    marked_false = sym (at_end (assigned_in true wanted_false negative) tags values i n count m.wanted_false_marked h refl)
+    marked_false = sym (by_rows (assigned_in true wanted_false negative) m.wanted_false_marked end refl)
 
 -- What all alternatives of a node want is what its rows want from the first 8 on.
 
@@ -355,53 +316,37 @@ node_wants (r ∷ rs) = go (has alternative r) refl (node_wants rs)
     go true e ih = rw (eqb-true r.tag alternative e) (all_wanted rs)
     go false e ih = ih
 
--- The rows up to the first 8.
+-- The first 8 has no literal of its own.
+behind_first : (rs : List Row) → wanted_in (drop 1 (drop_until (has alternative) rs)) ≡ wanted_in (drop_until (has alternative) rs)
+unfolding drop_until
+behind_first [] = refl
+behind_first (r ∷ rs) = by (has alternative r) refl (behind_first rs)
+  where
+    by : (b : Bool) → has alternative r ≡ b → wanted_in (drop 1 (drop_until (has alternative) rs)) ≡ wanted_in (drop_until (has alternative) rs)
+        → wanted_in (drop 1 (cond b (r ∷ rs) (drop_until (has alternative) rs))) ≡ wanted_in (cond b (r ∷ rs) (drop_until (has alternative) rs))
+    by true e ih =
+        let is : r.tag ≡ alternative = eqb-true r.tag alternative e in
+        sym (no_row wanted_true wanted_false r.value rs (λ (z : r.tag ≡ wanted_true). omega arith) (λ (z : r.tag ≡ wanted_false). omega arith))
+    by false e ih = ih
 
-module _ (tags values : List ℕ) (i n : ℕ) (count : n ≡ min (length tags) (length values))
-    (known : drop_until (has alternative) (zip_with row tags values) ≡ drop_until (has alternative) (drop i (zip_with row tags values))) where
-  abbrev wants : List Literal
-  wants = flatten (node_of (zip_with row tags values)).formula
+pub behind_wants : (rs : List Row) → wanted_in (drop 1 (drop_until (has alternative) rs)) ≡ flatten (node_of rs).formula
+behind_wants rs = behind_first rs ∙ sym (node_wants rs)
 
-  -- Row `i` is the first 8, which has no literal of its own.
-  pub cut_here : i < n → get_or tags i 0 ≡ alternative → wanted_in (drop (i + 1) (zip_with row tags values)) ≡ wants
+-- The rows behind the first 8, where that is the next, comes later, or is none of those that are left.
+module _ (rows : List Row) {rest : List Row} (known : drop_until (has alternative) rows ≡ drop_until (has alternative) rest) where
+  module _ (t v : ℕ) {rs : List Row} (next : rest ≡ row t v ∷ rs) where
+    pub cut_here : t ≡ alternative → drop 1 (drop_until (has alternative) rows) ≡ rs
+    unfolding drop_until
+    cut_here e =
+        let k : drop_until (has alternative) rows ≡ row t v ∷ rs = by_rows (drop_until (has alternative)) known next (rw (eq-eqb _ _ e)) in
+        rw k
+
+    pub cut_later : (t ≡ alternative → ⊥) → drop_until (has alternative) rows ≡ drop_until (has alternative) rs
+    unfolding drop_until
+    cut_later d = by_rows (drop_until (has alternative)) known next (rw (ne_eqb _ _ d))
+
+  pub cut_none : rest ≡ [] → drop 1 (drop_until (has alternative) rows) ≡ []
   unfolding drop_until
-  cut_here h e =
-      sym
-      (node_wants (zip_with row tags values)
-      ∙ ap wanted_in (by_row (drop_until (has alternative)) tags values i n count known h (rw (eq-eqb _ _ e)))
-      ∙ no_row wanted_true wanted_false (get_or values i 0) (drop (i + 1) (zip_with row tags values))
-      (λ (z : get_or tags i 0 ≡ wanted_true). omega (arith, e, z)) (λ (z : get_or tags i 0 ≡ wanted_false). omega (arith, e, z)))
-
-  pub cut_later : i < n → (get_or tags i 0 ≡ alternative → ⊥)
-      → drop_until (has alternative) (zip_with row tags values) ≡ drop_until (has alternative) (drop (i + 1) (zip_with row tags values))
-  unfolding drop_until
-  cut_later h d = by_row (drop_until (has alternative)) tags values i n count known h (rw (ne_eqb _ _ d))
-
-  pub cut_none : n ≤ i → wanted_in (drop n (zip_with row tags values)) ≡ wants
-  unfolding drop_until
-  cut_none h =
-      ap wanted_in
-      (at_end (λ (rs : List Row). rs) tags values n n count refl (omega arith) refl
-      ∙ sym (at_end (drop_until (has alternative)) tags values i n count known h refl))
-      ∙ sym (node_wants (zip_with row tags values))
-
-zip_none : (tags : List ℕ) → zip_with row tags [] ≡ []
-unfolding zip_with
-zip_none [] = refl
-zip_none (t ∷ tags) = refl
-
--- The rows of two columns that are cut alike.
-zip_drop : (k : ℕ) (tags values : List ℕ) → zip_with row (drop k tags) (drop k values) ≡ drop k (zip_with row tags values)
-unfolding zip_with
-zip_drop zero tags values = refl
-zip_drop (suc k) [] values = rw (drop-nil (suc k))
-zip_drop (suc k) (t ∷ tags) [] = zip_none (drop k tags)
-zip_drop (suc k) (t ∷ tags) (v ∷ values) = zip_drop k tags values
-
-part_end : (k : ℕ) (l : List ℕ) → take (length l - k) (drop k l) ≡ drop k l
-part_end k l = take_all (length l - k) (drop k l) (omega (arith, length-drop k l))
-
--- Two columns that are cut alike have what is wanted from there on.
-pub cut_wants : (k : ℕ) (tags values : List ℕ) {wanted : List Literal} → wanted_in (drop k (zip_with row tags values)) ≡ wanted
-    → wanted_in (zip_with row (take (length tags - k) (drop k tags)) (take (length values - k) (drop k values))) ≡ wanted
-cut_wants k tags values e = rw (part_end k tags, part_end k values) (ap wanted_in (zip_drop k tags values) ∙ e)
+  cut_none end =
+      let k : drop_until (has alternative) rows ≡ [] = by_rows (drop_until (has alternative)) known end refl in
+      rw k

@@ -1,19 +1,18 @@
-// Tests on the rows of a part: do its literals hold, does its formula, are these effects relevant to it?
-// The rows of an operator are read where their words stand; those of a waiting goal are lent as its tags and its values. Document 01,
-// "How a derivation runs".
+// Tests on rows: do their literals hold, does their formula, are these effects relevant to it? Document 01, "How a derivation runs".
 ghost use Rattle.std.specs.Prelude.{◌≡◌};
-ghost use mathlib.Core.List.{[], ◌∷◌, zip_with};
+ghost use mathlib.Core.List.{[], ◌∷◌};
 ghost use Rattle.hgn.specs.Rows.{row};
 ghost use Rattle.hgn.specs.Tag.{wanted_true, wanted_false};
 ghost use Rattle.hgn.specs.Meaning.{literals, node_of};
 ghost use Rattle.hgn.specs.State.{all_hold, relevant};
-ghost use Rattle.sheet_index.specs.Index.{part_rows, Lies};
+ghost use Rattle.sheet_index.specs.Index.{rows_in};
 ghost use Rattle.state.specs.Effects.{met_of};
-ghost use Rattle.state.specs.Tests.{holds_in, Tested, GoalTested};
+ghost use Rattle.state.specs.Literals.{literal_of, literals_of};
+ghost use Rattle.state.specs.Tests.{Tested, GoalTested};
 
-use crate::{atoms, part};
+use crate::atoms;
 use sheet_check::check::Shop;
-use sheet_index::index::Part;
+use sheet_index::rows::Rows;
 use sheet_rows::position::Atom;
 use sheet_rows::tag;
 
@@ -31,123 +30,107 @@ pub struct LiteralTags {
     pub negative: u16,
 }
 
-// The row's literal holds, if it has one: its tag is one of these two, one for true and one for false.
+impl LiteralTags {
+    // What an action or a method needs.
+    pub const NEEDS: LiteralTags = LiteralTags {
+        positive: tag::NEEDS_TRUE,
+        negative: tag::NEEDS_FALSE,
+    };
+
+    // What an action makes.
+    pub const EFFECTS: LiteralTags = LiteralTags {
+        positive: tag::MAKES_TRUE,
+        negative: tag::MAKES_FALSE,
+    };
+
+    // What a node wants.
+    pub const WANTED: LiteralTags = LiteralTags {
+        positive: tag::WANTED_TRUE,
+        negative: tag::WANTED_FALSE,
+    };
+
+    // A row's literal, if its tag is one of the two.
+    pub fn literal(self, tag: u16, value: u16) -> Option<Literal>
+        ensures { literals_of result ≡ literals self.positive self.negative (row tag value ∷ []) }
+    {
+        if tag == self.positive {
+            Some(Literal {
+                atom: Atom(value),
+                sign: true,
+            })
+        } else if tag == self.negative {
+            Some(Literal {
+                atom: Atom(value),
+                sign: false,
+            })
+        } else {
+            None
+        }
+    }
+}
+
+// The row's literal holds, if it has one.
 fn row_holds(
     atoms: &[bool; Shop::MOST_ATOMS as usize],
+    signs: LiteralTags,
     tag: u16,
     value: u16,
-    yes: u16,
-    no: u16,
 ) -> bool
-    ensures { result ≡ all_hold atoms.now (literals «yes» «no» (row tag value ∷ [])) }
+    ensures { result ≡ all_hold atoms.now (literals signs.positive signs.negative (row tag value ∷ [])) }
 {
-    if tag == yes {
-        return atoms::holds(atoms, Atom(value), true);
-    }
-    if tag == no {
-        return atoms::holds(atoms, Atom(value), false);
-    }
-    true
-}
-
-// What a test of literals or of a formula tells: it holds, or else the atom of the first literal that does not.
-#[derive(Clone, Copy)]
-pub enum Test {
-    Holds,
-    Fails(Atom),
-}
-
-impl Test {
-    // What was tested holds.
-    pub fn holds(self) -> bool
-        ensures { result ≡ holds_in self }
-    {
-        match self {
-            Test::Holds => true,
-            Test::Fails(_) => false,
-        }
+    match signs.literal(tag, value) {
+        Some(literal) => atoms::holds(atoms, literal.atom, literal.sign),
+        None => true,
     }
 }
 
-// What the literals of a part's rows with these two tags, one for true and one for false, come to.
+// The literals of these rows hold; else the atom of the first that does not.
 pub fn test_literals(
     atoms: &[bool; Shop::MOST_ATOMS as usize],
-    words: &[u16],
-    part: Part,
-    yes: u16,
-    no: u16,
-) -> Test
-    requires { Lies words.now part }
-    ensures { Tested atoms.now (literals «yes» «no» (part_rows words.now part)) result }
+    rows: Rows,
+    signs: LiteralTags,
+) -> Result<(), Atom>
+    ensures { Tested atoms.now (literals signs.positive signs.negative (rows_in rows.entry)) result }
 {
-    let tags = part.tags;
-    let values = part.values;
-    let n = part.rows;
-    let mut test = Test::Holds;
-    let mut i = 0;
-    while i < n {
-        let tag = words[tags + i];
-        let value = words[values + i];
-        i += 1;
-        if !row_holds(atoms, tag, value, yes, no) {
-            test = Test::Fails(Atom(value));
-            // The first is told, so no row after it is read.
-            i = n;
+    for (tag, value) in rows.iter() {
+        if !row_holds(atoms, signs, *tag, *value) {
+            return Err(Atom(*value));
         }
     }
-    test
+    Ok(())
 }
 
-// Every literal of a part's rows with these two tags, one for true and one for false, holds.
-pub fn all_hold(
-    atoms: &[bool; Shop::MOST_ATOMS as usize],
-    words: &[u16],
-    part: Part,
-    yes: u16,
-    no: u16,
-) -> bool
-    requires { Lies words.now part }
-    ensures { result ≡ all_hold atoms.now (literals «yes» «no» (part_rows words.now part)) }
+// Every literal of these rows holds.
+pub fn all_hold(atoms: &[bool; Shop::MOST_ATOMS as usize], rows: Rows, signs: LiteralTags) -> bool
+    ensures { result ≡ all_hold atoms.now (literals signs.positive signs.negative (rows_in rows.entry)) }
 {
-    let test = test_literals(atoms, words, part, yes, no);
-    test.holds()
+    test_literals(atoms, rows, signs).is_ok()
 }
 
-// What the formula of a node's rows comes to: it holds where one of its alternatives does. Where none does, the first row that is not as
-// wanted is told; it stands in the first alternative, since the walk ends where one holds. A formula without alternatives names no atom.
-pub fn test_formula(atoms: &[bool; Shop::MOST_ATOMS as usize], tags: &[u16], values: &[u16]) -> Test
-    ensures { GoalTested atoms.now (node_of (zip_with row tags.now values.now)).formula result }
+// The formula of a node's rows holds where one of its alternatives does. Where none does, the first row that is not as wanted is told; it
+// stands in the first alternative, since the walk ends where one holds. A formula without alternatives names no atom.
+pub fn test_formula(atoms: &[bool; Shop::MOST_ATOMS as usize], node: Rows) -> Result<(), Atom>
+    ensures { GoalTested atoms.now (node_of (rows_in node.entry)).formula result }
 {
-    let n = part::rows(tags, values);
     // The alternative that the row stands in holds so far; there is none before the first 8.
     let mut so_far = false;
-    // A row was not as wanted, and the first such has this atom. The atom alone does not say so, as a value may be any number.
-    let mut failed = false;
-    let mut atom = atoms::NO_ATOM;
-    let mut i = 0;
-    while i < n {
-        let tag = tags[i];
-        let value = values[i];
-        i += 1;
-        if tag == tag::ALTERNATIVE {
+    // The atom of the first row that was not as wanted.
+    let mut unmet = None;
+    for (tag, value) in node.iter() {
+        if *tag == tag::ALTERNATIVE {
             if so_far {
-                return Test::Holds;
+                return Ok(());
             }
             so_far = true;
-        } else if so_far {
-            if !row_holds(atoms, tag, value, tag::WANTED_TRUE, tag::WANTED_FALSE) {
-                so_far = false;
-                if !failed {
-                    failed = true;
-                    atom = value;
-                }
-            }
+        } else if so_far && !row_holds(atoms, LiteralTags::WANTED, *tag, *value) {
+            so_far = false;
+            unmet = unmet.or(Some(Atom(*value)));
         }
     }
     if so_far {
-        return Test::Holds;
+        return Ok(());
     }
-    Test::Fails(Atom(atom))
+    Err(unmet.unwrap_or(Atom(atoms::NO_ATOM)))
 }
 
 // What effects do to wanted literals: they contain the opposite of one, or else one of them, or neither.
@@ -158,115 +141,69 @@ pub enum Met {
     Neither,
 }
 
-// What an effect, an atom and its own sign, does to a wanted literal.
-fn literal_met(own: bool, value: u16, atom: Atom, sign: bool) -> Met
-    ensures { result ≡ met_of (record { sign = own; atom = value } ∷ []) (record { sign = sign; atom = atom.0 } ∷ []) }
+// What an effect does to a wanted literal.
+fn literal_met(effect: Literal, wanted: Literal) -> Met
+    ensures { result ≡ met_of (literal_of effect ∷ []) (literal_of wanted ∷ []) }
 {
-    let wanted = atom.0;
-    if value == wanted {
-        if own {
-            if sign {
-                return Met::Same;
-            }
-            return Met::Opposite;
-        }
-        if sign {
-            return Met::Opposite;
-        }
-        return Met::Same;
+    if effect.atom.0 != wanted.atom.0 {
+        Met::Neither
+    } else if effect.sign == wanted.sign {
+        Met::Same
+    } else {
+        Met::Opposite
     }
-    Met::Neither
 }
 
-// What a row's literal, if it has one with these two tags, does to a wanted literal.
-fn row_met(tag: u16, value: u16, yes: u16, no: u16, atom: Atom, sign: bool) -> Met
-    ensures { result ≡ met_of (literals «yes» «no» (row tag value ∷ [])) (record { sign = sign; atom = atom.0 } ∷ []) }
+// What a row's literal, if it has one, does to a wanted literal.
+fn row_met(signs: LiteralTags, tag: u16, value: u16, wanted: Literal) -> Met
+    ensures { result ≡ met_of (literals signs.positive signs.negative (row tag value ∷ [])) (literal_of wanted ∷ []) }
 {
-    if tag == yes {
-        return literal_met(true, value, atom, sign);
+    match signs.literal(tag, value) {
+        Some(effect) => literal_met(effect, wanted),
+        None => Met::Neither,
     }
-    if tag == no {
-        return literal_met(false, value, atom, sign);
-    }
-    Met::Neither
 }
 
-// What the effects in a part's rows with these two tags do to a wanted literal.
-fn part_met(words: &[u16], effects: Part, yes: u16, no: u16, atom: Atom, sign: bool) -> Met
-    requires { Lies words.now effects }
-    ensures { result ≡ met_of (literals «yes» «no» (part_rows words.now effects)) (record { sign = sign; atom = atom.0 } ∷ []) }
+// What these effects do to a wanted literal.
+fn part_met(effects: Rows, signs: LiteralTags, wanted: Literal) -> Met
+    ensures { result ≡ met_of (literals signs.positive signs.negative (rows_in effects.entry)) (literal_of wanted ∷ []) }
 {
-    let tags = effects.tags;
-    let values = effects.values;
-    let n = effects.rows;
-    let mut same = false;
-    let mut i = 0;
-    while i < n {
-        let here = row_met(words[tags + i], words[values + i], yes, no, atom, sign);
-        i += 1;
-        match here {
-            Met::Opposite => {
-                return Met::Opposite;
-            }
-            Met::Same => {
-                same = true;
-            }
+    let mut met = Met::Neither;
+    for (tag, value) in effects.iter() {
+        match row_met(signs, *tag, *value, wanted) {
+            Met::Opposite => return Met::Opposite,
+            Met::Same => met = Met::Same,
             Met::Neither => {}
         }
     }
-    if same {
-        return Met::Same;
-    }
-    Met::Neither
+    met
 }
 
-// What the effects in a part's rows with these two tags do to the literal that a row wants, if it wants one.
-fn wanted_met(words: &[u16], effects: Part, yes: u16, no: u16, tag: u16, value: u16) -> Met
-    requires { Lies words.now effects }
-    ensures { result ≡ met_of (literals «yes» «no» (part_rows words.now effects)) (literals wanted_true wanted_false (row tag value ∷ [])) }
+// What these effects do to the literal that a row wants, if it wants one.
+fn wanted_met(effects: Rows, signs: LiteralTags, tag: u16, value: u16) -> Met
+    ensures { result ≡ met_of (literals signs.positive signs.negative (rows_in effects.entry))
+        (literals wanted_true wanted_false (row tag value ∷ [])) }
 {
-    if tag == tag::WANTED_TRUE {
-        return part_met(words, effects, yes, no, Atom(value), true);
+    match LiteralTags::WANTED.literal(tag, value) {
+        Some(wanted) => part_met(effects, signs, wanted),
+        None => Met::Neither,
     }
-    if tag == tag::WANTED_FALSE {
-        return part_met(words, effects, yes, no, Atom(value), false);
-    }
-    Met::Neither
 }
 
-// The effects in a part's rows with these two tags are relevant to the formula of a node's rows: they contain one of its literals and
-// the opposite of none.
-pub fn is_relevant(
-    words: &[u16],
-    effects: Part,
-    yes: u16,
-    no: u16,
-    tags: &[u16],
-    values: &[u16],
-) -> bool
-    requires { Lies words.now effects }
-    ensures { result ≡ relevant (literals «yes» «no» (part_rows words.now effects)) (node_of (zip_with row tags.now values.now)).formula }
+// These effects are relevant to the formula of a node's rows: they contain one of its literals and the opposite of none.
+pub fn is_relevant(effects: Rows, signs: LiteralTags, node: Rows) -> bool
+    ensures { result ≡ relevant (literals signs.positive signs.negative (rows_in effects.entry)) (node_of (rows_in node.entry)).formula }
 {
-    let n = part::rows(tags, values);
     // The row stands in an alternative; none does before the first 8.
     let mut inside = false;
     let mut helped = false;
-    let mut i = 0;
-    while i < n {
-        let tag = tags[i];
-        let value = values[i];
-        i += 1;
-        if tag == tag::ALTERNATIVE {
+    for (tag, value) in node.iter() {
+        if *tag == tag::ALTERNATIVE {
             inside = true;
         } else if inside {
-            let here = wanted_met(words, effects, yes, no, tag, value);
-            match here {
-                Met::Opposite => {
-                    return false;
-                }
-                Met::Same => {
-                    helped = true;
-                }
+            match wanted_met(effects, signs, *tag, *value) {
+                Met::Opposite => return false,
+                Met::Same => helped = true,
                 Met::Neither => {}
             }
         }

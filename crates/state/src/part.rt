@@ -1,36 +1,25 @@
-// A part of a sheet, lent as its tags and its values: row i is tag i with value i.
-ghost use Rattle.std.specs.Prelude.{◌≡◌, min, ◌≤◌, length, drop};
-ghost use mathlib.Core.List.{zip_with, flatten};
-ghost use Rattle.hgn.specs.Rows.{row};
-ghost use Rattle.hgn.specs.Tag.{wanted_true, wanted_false};
+// The rows of a node that belong to its alternatives.
+ghost use Rattle.std.specs.Prelude.{◌≡◌, drop};
+ghost use mathlib.Core.List.{flatten};
+ghost use Rattle.hgn.specs.Lists.{drop_until};
+ghost use Rattle.hgn.specs.Rows.{has};
+ghost use Rattle.hgn.specs.Tag.{alternative, wanted_true, wanted_false};
 ghost use Rattle.hgn.specs.Meaning.{literals, node_of};
+ghost use Rattle.sheet_index.specs.Index.{rows_in};
 
+use sheet_index::rows::Rows;
 use sheet_rows::tag;
 
-// The number of its rows: those that have both.
-pub fn rows(tags: &[u16], values: &[u16]) -> usize
-    ensures { result ≡ min (length tags.now) (length values.now) }
+// The rows behind the first 8; none where there is no 8.
+pub fn behind_first_alternative<'a>(node: Rows<'a>) -> Rows<'a>
+    ensures behind { rows_in result ≡ drop 1 (drop_until (has alternative) (rows_in node.entry)) }
+    ensures wants { literals wanted_true wanted_false (rows_in result) ≡ flatten (node_of (rows_in node.entry)).formula }
 {
-    if tags.len() < values.len() {
-        return tags.len();
-    }
-    values.len()
-}
-
-// The number of the row behind the first 8, from which on rows belong to alternatives; of all rows where there is no 8.
-pub fn behind_first_alternative(tags: &[u16], values: &[u16]) -> usize
-    ensures { (result ≤ length tags.now) × (result ≤ length values.now)
-        × (literals wanted_true wanted_false (drop result (zip_with row tags.now values.now))
-        ≡ flatten (node_of (zip_with row tags.now values.now)).formula) }
-{
-    let n = rows(tags, values);
-    let mut i = 0;
-    while i < n {
-        let tag = tags[i];
-        i += 1;
-        if tag == tag::ALTERNATIVE {
-            return i;
+    // By the row's number, since the rows behind it are handed back.
+    for i in 0..node.count() {
+        if node.tags[i] == tag::ALTERNATIVE {
+            return node.skip(i + 1);
         }
     }
-    n
+    node.skip(node.count())
 }

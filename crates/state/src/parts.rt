@@ -4,78 +4,66 @@ ghost use Rattle.hgn.specs.Meaning.{literals, node_of};
 ghost use mathlib.Core.List.{flatten};
 ghost use Rattle.hgn.specs.State.{formula_holds, relevant};
 ghost use Rattle.hgn.specs.Relevance.{relevance};
-ghost use Rattle.sheet_index.specs.Index.{span_rows, part_rows, Lies};
+ghost use Rattle.sheet_index.specs.Index.{span_rows, rows_in};
 ghost use Rattle.state.specs.Relevances.{relevance_of};
 ghost use Rattle.state.specs.Tests.{GoalTested};
 
-use crate::literals::{LiteralTags, Test};
+use crate::literals::LiteralTags;
 use crate::relevance::Relevance;
 use crate::{literals, relevance};
 use sheet_check::check::Shop;
-use sheet_index::index;
-use sheet_index::index::{Part, Span};
+use sheet_index::index::Span;
+use sheet_index::rows::Rows;
+use sheet_rows::position::Atom;
 
-// What the formula of a node with these rows comes to.
-pub fn test_goal<'a>(
+// The formula of a node with these rows holds; else the atom of the first row that is not as wanted.
+pub fn test_goal(
     atoms: &[bool; Shop::MOST_ATOMS as usize],
-    shop: &'a [u16],
-    order: &'a [u16],
+    shop: &[u16],
+    order: &[u16],
     rows: Span,
-) -> Test
+) -> Result<(), Atom>
     ensures { GoalTested atoms.now (node_of (span_rows shop.now order.now rows)).formula result }
 {
-    let tags = index::tags_of(rows, shop, order);
-    let values = index::values_of(rows, shop, order);
-    literals::test_formula(atoms, tags, values)
+    literals::test_formula(atoms, rows.rows(shop, order))
 }
 
 // The formula of a node with these rows holds.
-pub fn goal_holds<'a>(
+pub fn goal_holds(
     atoms: &[bool; Shop::MOST_ATOMS as usize],
-    shop: &'a [u16],
-    order: &'a [u16],
+    shop: &[u16],
+    order: &[u16],
     rows: Span,
 ) -> bool
     ensures { result ≡ formula_holds atoms.now (node_of (span_rows shop.now order.now rows)).formula }
 {
-    let test = test_goal(atoms, shop, order, rows);
-    test.holds()
+    test_goal(atoms, shop, order, rows).is_ok()
 }
 
-// What the effects in a part of the shop sheet, with one tag for true and one for false, do to what a node with those rows wants.
-pub fn relevance_to<'a>(
-    shop: &'a [u16],
-    order: &'a [u16],
-    effects: Part,
-    yes: u16,
-    no: u16,
+// What these effects do to what a node with those rows wants.
+pub fn relevance_to(
+    shop: &[u16],
+    order: &[u16],
+    effects: Rows,
+    signs: LiteralTags,
     goal: Span,
 ) -> Relevance
-    requires { Lies shop.now effects }
-    ensures { relevance_of result ≡ relevance (literals «yes» «no» (part_rows shop.now effects))
+    ensures { relevance_of result ≡ relevance (literals signs.positive signs.negative (rows_in effects.entry))
         (flatten (node_of (span_rows shop.now order.now goal)).formula) }
 {
-    let tags = index::tags_of(goal, shop, order);
-    let values = index::values_of(goal, shop, order);
-    let signs = LiteralTags {
-        positive: yes,
-        negative: no,
-    };
-    relevance::relevance_to_node(shop, effects, signs, tags, values)
+    relevance::relevance_to_node(effects, signs, goal.rows(shop, order))
 }
 
-// The effects in a part of the shop sheet, with one tag for true and one for false, are relevant to a node with those rows.
-pub fn relevant_to<'a>(
-    shop: &'a [u16],
-    order: &'a [u16],
-    effects: Part,
-    yes: u16,
-    no: u16,
+// These effects are relevant to a node with those rows.
+pub fn relevant_to(
+    shop: &[u16],
+    order: &[u16],
+    effects: Rows,
+    signs: LiteralTags,
     goal: Span,
 ) -> bool
-    requires { Lies shop.now effects }
-    ensures { result ≡ relevant (literals «yes» «no» (part_rows shop.now effects)) (node_of (span_rows shop.now order.now goal)).formula }
+    ensures { result ≡ relevant (literals signs.positive signs.negative (rows_in effects.entry))
+        (node_of (span_rows shop.now order.now goal)).formula }
 {
-    let told = relevance_to(shop, order, effects, yes, no, goal);
-    told.is_helping()
+    relevance_to(shop, order, effects, signs, goal).is_helping()
 }

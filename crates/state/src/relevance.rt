@@ -1,20 +1,21 @@
 // What effects do to wanted literals, told with the effect that decides. The effects are walked in listed order and each is looked up among the
 // wanted literals, whose rows are gone through once: for one or two effects each row is compared with them, for more the rows leave a mark at
 // each atom. (An effect whose number is no atom, which no checked sheet has, is looked for among the rows once more.) Document 02, Req 04.
-ghost use Rattle.std.specs.Prelude.{◌≡◌, true, ◌&&◌, ◌<◌, eqb};
-ghost use mathlib.Core.List.{[], ◌∷◌, zip_with, flatten};
+ghost use Rattle.std.specs.Prelude.{◌≡◌, true, ◌&&◌, eqb};
+ghost use mathlib.Core.List.{[], ◌∷◌, flatten};
 ghost use Rattle.hgn.specs.Rows.{row, values_tagged};
 ghost use Rattle.hgn.specs.Tag.{wanted_true, wanted_false};
 ghost use Rattle.hgn.specs.Meaning.{literals, node_of};
 ghost use Rattle.hgn.specs.State.{assign};
 ghost use Rattle.hgn.specs.Relevance.{is_helping, relevance};
-ghost use Rattle.sheet_index.specs.Index.{part_rows, Lies};
-ghost use Rattle.state.specs.Relevances.{literal_of, relevance_of, followed, effect_met_by, wanted_in, effect_at, NextEffect, Marked};
+ghost use Rattle.sheet_index.specs.Index.{rows_in};
+ghost use Rattle.state.specs.Literals.{literal_of};
+ghost use Rattle.state.specs.Relevances.{relevance_of, followed, effect_met_by, wanted_in, NextEffect, Marked};
 
 use crate::literals::{Literal, LiteralTags};
 use crate::{atoms, part};
 use sheet_check::check::Shop;
-use sheet_index::index::Part;
+use sheet_index::rows::Rows;
 use sheet_rows::position::Atom;
 use sheet_rows::tag;
 
@@ -33,8 +34,8 @@ impl Relevance {
         ensures { result ≡ is_helping (relevance_of self) }
     {
         match self {
-            Relevance::Blocked(_) => false,
             Relevance::Helping(_) => true,
+            Relevance::Blocked(_) => false,
             Relevance::Neither => false,
         }
     }
@@ -85,69 +86,59 @@ fn is_row(tag: u16, value: u16, wanted: u16, atom: Atom) -> bool
 }
 
 // What one effect does to what these rows want.
-fn one_meets(effect: Literal, tags: &[u16], values: &[u16]) -> Relevance
-    ensures { relevance_of result ≡ relevance (literal_of effect ∷ []) (wanted_in (zip_with row tags.now values.now)) }
+fn one_meets(effect: Literal, wanted: Rows) -> Relevance
+    ensures { relevance_of result ≡ relevance (literal_of effect ∷ []) (wanted_in (rows_in wanted.entry)) }
 {
-    let n = part::rows(tags, values);
     let mut positive = false;
     let mut negative = false;
-    let mut i = 0;
-    while i < n {
-        let tag = tags[i];
-        let value = values[i];
-        i += 1;
-        positive = positive | is_row(tag, value, tag::WANTED_TRUE, effect.atom);
-        negative = negative | is_row(tag, value, tag::WANTED_FALSE, effect.atom);
+    for (tag, value) in wanted.iter() {
+        positive |= is_row(*tag, *value, tag::WANTED_TRUE, effect.atom);
+        negative |= is_row(*tag, *value, tag::WANTED_FALSE, effect.atom);
     }
     if positive | negative {
-        return meets(effect, positive, negative);
+        meets(effect, positive, negative)
+    } else {
+        Relevance::Neither
     }
-    Relevance::Neither
 }
 
 // What two effects, in this order, do to what these rows want. Each row is compared with both.
-fn two_meet(first: Literal, second: Literal, tags: &[u16], values: &[u16]) -> Relevance
-    ensures { relevance_of result ≡ relevance (literal_of first ∷ literal_of second ∷ [])
-        (wanted_in (zip_with row tags.now values.now)) }
+fn two_meet(first: Literal, second: Literal, wanted: Rows) -> Relevance
+    ensures { relevance_of result ≡ relevance (literal_of first ∷ literal_of second ∷ []) (wanted_in (rows_in wanted.entry)) }
 {
-    let n = part::rows(tags, values);
     let mut first_positive = false;
     let mut first_negative = false;
     let mut second_positive = false;
     let mut second_negative = false;
-    let mut i = 0;
-    while i < n {
-        let tag = tags[i];
-        let value = values[i];
-        i += 1;
-        first_positive = first_positive | is_row(tag, value, tag::WANTED_TRUE, first.atom);
-        first_negative = first_negative | is_row(tag, value, tag::WANTED_FALSE, first.atom);
-        second_positive = second_positive | is_row(tag, value, tag::WANTED_TRUE, second.atom);
-        second_negative = second_negative | is_row(tag, value, tag::WANTED_FALSE, second.atom);
+    for (tag, value) in wanted.iter() {
+        first_positive |= is_row(*tag, *value, tag::WANTED_TRUE, first.atom);
+        first_negative |= is_row(*tag, *value, tag::WANTED_FALSE, first.atom);
+        second_positive |= is_row(*tag, *value, tag::WANTED_TRUE, second.atom);
+        second_negative |= is_row(*tag, *value, tag::WANTED_FALSE, second.atom);
     }
     if first_positive | first_negative | second_positive | second_negative {
-        let told = meets(first, first_positive, first_negative);
-        return told.followed_by(meets(second, second_positive, second_negative));
+        meets(first, first_positive, first_negative).followed_by(meets(
+            second,
+            second_positive,
+            second_negative,
+        ))
+    } else {
+        Relevance::Neither
     }
-    Relevance::Neither
 }
 
 // The atoms that these rows want true are put into one set, those that they want false into another, in one pass.
-fn mark(positive: &mut [bool], negative: &mut [bool], tags: &[u16], values: &[u16])
-    ensures { (positive.new ≡ assign true (values_tagged wanted_true (zip_with row tags.now values.now)) positive.old)
-        × (negative.new ≡ assign true (values_tagged wanted_false (zip_with row tags.now values.now)) negative.old) }
+fn mark(positive: &mut [bool], negative: &mut [bool], wanted: Rows)
+    ensures { (positive.new ≡ assign true (values_tagged wanted_true (rows_in wanted.entry)) positive.old)
+        × (negative.new ≡ assign true (values_tagged wanted_false (rows_in wanted.entry)) negative.old) }
 {
-    let n = part::rows(tags, values);
-    let mut i = 0;
-    while i < n {
-        let tag = tags[i];
-        let at = values[i] as usize;
-        i += 1;
-        if tag == tag::WANTED_TRUE {
+    for (tag, value) in wanted.iter() {
+        let at = *value as usize;
+        if *tag == tag::WANTED_TRUE {
             if at < positive.len() {
                 positive[at] = true;
             }
-        } else if tag == tag::WANTED_FALSE {
+        } else if *tag == tag::WANTED_FALSE {
             if at < negative.len() {
                 negative[at] = true;
             }
@@ -160,188 +151,108 @@ fn effect_meets(
     effect: Literal,
     positive: &[bool; Shop::MOST_ATOMS as usize],
     negative: &[bool; Shop::MOST_ATOMS as usize],
-    tags: &[u16],
-    values: &[u16],
+    wanted: Rows,
 ) -> Relevance
-    requires { Marked (zip_with row tags.now values.now) positive.now negative.now }
-    ensures { relevance_of result ≡ relevance (literal_of effect ∷ []) (wanted_in (zip_with row tags.now values.now)) }
+    requires { Marked (rows_in wanted) positive.now negative.now }
+    ensures { relevance_of result ≡ relevance (literal_of effect ∷ []) (wanted_in (rows_in wanted.entry)) }
 {
     let atom = effect.atom;
     if Shop::MOST_ATOMS <= atom.0 {
-        return one_meets(effect, tags, values);
+        return one_meets(effect, wanted);
     }
     let wanted_true = atoms::holds(positive, atom, true);
     let wanted_false = atoms::holds(negative, atom, true);
     meets(effect, wanted_true, wanted_false)
 }
 
-// What the effect of a row with one of the two tags, if it has one, does to what these rows want, by their marks.
+// What the effect of a row, if it has one, does to what these rows want, by their marks.
 fn row_meets(
     signs: LiteralTags,
     tag: u16,
     value: u16,
     positive: &[bool; Shop::MOST_ATOMS as usize],
     negative: &[bool; Shop::MOST_ATOMS as usize],
-    tags: &[u16],
-    values: &[u16],
+    wanted: Rows,
 ) -> Relevance
-    requires { Marked (zip_with row tags.now values.now) positive.now negative.now }
+    requires { Marked (rows_in wanted) positive.now negative.now }
     ensures { relevance_of result ≡ relevance (literals signs.positive signs.negative (row tag value ∷ []))
-        (wanted_in (zip_with row tags.now values.now)) }
+        (wanted_in (rows_in wanted.entry)) }
 {
-    let atom = Atom(value);
-    if tag == signs.positive {
-        let effect = Literal {
-            atom: atom,
-            sign: true,
-        };
-        return effect_meets(effect, positive, negative, tags, values);
+    match signs.literal(tag, value) {
+        Some(effect) => effect_meets(effect, positive, negative, wanted),
+        None => Relevance::Neither,
     }
-    if tag == signs.negative {
-        let effect = Literal {
-            atom: atom,
-            sign: false,
-        };
-        return effect_meets(effect, positive, negative, tags, values);
-    }
-    Relevance::Neither
 }
 
-// What the effects in a part's rows do to what these rows want, by their marks. The walk ends at the first effect that is blocked; the first
-// that helps is told only at the end.
+// What these effects do to what these rows want, by their marks. The walk ends at the first effect that is blocked; the first that helps is told
+// only at the end.
 fn walk_effects(
-    words: &[u16],
-    effects: Part,
+    effects: Rows,
     signs: LiteralTags,
     positive: &[bool; Shop::MOST_ATOMS as usize],
     negative: &[bool; Shop::MOST_ATOMS as usize],
-    tags: &[u16],
-    values: &[u16],
+    wanted: Rows,
 ) -> Relevance
-    requires { Lies words.now effects × Marked (zip_with row tags.now values.now) positive.now negative.now }
-    ensures { relevance_of result ≡ relevance (literals signs.positive signs.negative (part_rows words.now effects))
-        (wanted_in (zip_with row tags.now values.now)) }
+    requires { Marked (rows_in wanted) positive.now negative.now }
+    ensures { relevance_of result ≡ relevance (literals signs.positive signs.negative (rows_in effects.entry))
+        (wanted_in (rows_in wanted.entry)) }
 {
-    let tags_at = effects.tags;
-    let values_at = effects.values;
-    let n = effects.rows;
     let mut told = Relevance::Neither;
-    let mut i = 0;
-    while i < n {
-        let tag = words[tags_at + i];
-        let value = words[values_at + i];
-        i += 1;
-        let here = row_meets(signs, tag, value, positive, negative, tags, values);
-        told = told.followed_by(here);
-        match told {
-            Relevance::Blocked(effect) => {
-                return Relevance::Blocked(effect);
-            }
-            Relevance::Helping(effect) => {}
-            Relevance::Neither => {}
+    for (tag, value) in effects.iter() {
+        told = told.followed_by(row_meets(signs, *tag, *value, positive, negative, wanted));
+        if let Relevance::Blocked(_) = told {
+            return told;
         }
     }
     told
 }
 
-// What the effects in a part's rows, however many, do to what these rows want.
-fn many_meet(
-    words: &[u16],
-    effects: Part,
-    signs: LiteralTags,
-    tags: &[u16],
-    values: &[u16],
-) -> Relevance
-    requires { Lies words.now effects }
-    ensures { relevance_of result ≡ relevance (literals signs.positive signs.negative (part_rows words.now effects))
-        (wanted_in (zip_with row tags.now values.now)) }
+// What these effects, however many, do to what these rows want.
+fn many_meet(effects: Rows, signs: LiteralTags, wanted: Rows) -> Relevance
+    ensures { relevance_of result ≡ relevance (literals signs.positive signs.negative (rows_in effects.entry))
+        (wanted_in (rows_in wanted.entry)) }
 {
     let mut positive = [false; Shop::MOST_ATOMS as usize];
     let mut negative = [false; Shop::MOST_ATOMS as usize];
-    mark(&mut positive, &mut negative, tags, values);
-    walk_effects(words, effects, signs, &positive, &negative, tags, values)
+    mark(&mut positive, &mut negative, wanted);
+    walk_effects(effects, signs, &positive, &negative, wanted)
 }
 
-// The number of the first of a part's rows, from this one on, that has an effect; that of its rows where none has.
-fn next_effect(words: &[u16], effects: Part, signs: LiteralTags, from: usize) -> usize
-    requires { Lies words.now effects }
-    ensures { NextEffect words.now effects signs from result }
+// The first effect of these rows, with the rows behind its own; none where no row has one.
+fn next_effect<'a>(effects: Rows<'a>, signs: LiteralTags) -> Option<(Literal, Rows<'a>)>
+    ensures { NextEffect signs (rows_in effects.entry) result }
 {
-    let tags = effects.tags;
-    let n = effects.rows;
-    let mut i = from;
-    while i < n {
-        let tag = words[tags + i];
-        if tag == signs.positive {
-            return i;
+    // By the row's number, since the rows behind it are handed back.
+    for i in 0..effects.count() {
+        if let Some(effect) = signs.literal(effects.tags[i], effects.values[i]) {
+            return Some((effect, effects.skip(i + 1)));
         }
-        if tag == signs.negative {
-            return i;
-        }
-        i += 1;
     }
-    n
+    None
 }
 
-// The effect of a part's row that has one.
-fn effect_at(words: &[u16], effects: Part, signs: LiteralTags, at: usize) -> Literal
-    requires { Lies words.now effects × (at < effects.rows) }
-    ensures { literal_of result ≡ effect_at words.now effects signs at }
+// What these effects do to what rows want, whichever rows these are: those of one alternative or of several. Every 9 and 10 row counts, wherever it
+// stands.
+pub fn relevance_of(effects: Rows, signs: LiteralTags, wanted: Rows) -> Relevance
+    ensures { relevance_of result ≡ relevance (literals signs.positive signs.negative (rows_in effects.entry))
+        (literals wanted_true wanted_false (rows_in wanted.entry)) }
 {
-    let tags = effects.tags;
-    let values = effects.values;
-    let atom = Atom(words[values + at]);
-    Literal {
-        atom: atom,
-        sign: words[tags + at] == signs.positive,
-    }
-}
-
-// What the effects in a part's rows with these two tags do to what rows want, whichever rows these are: those of one alternative or of several. Every 9
-// and 10 row counts, wherever it stands.
-pub fn relevance_of(
-    words: &[u16],
-    effects: Part,
-    signs: LiteralTags,
-    tags: &[u16],
-    values: &[u16],
-) -> Relevance
-    requires { Lies words.now effects }
-    ensures { relevance_of result ≡ relevance (literals signs.positive signs.negative (part_rows words.now effects))
-        (literals wanted_true wanted_false (zip_with row tags.now values.now)) }
-{
-    let n = effects.rows;
-    let first = next_effect(words, effects, signs, 0);
-    if n <= first {
+    let Some((first, rest)) = next_effect(effects, signs) else {
         return Relevance::Neither;
+    };
+    let Some((second, rest)) = next_effect(rest, signs) else {
+        return one_meets(first, wanted);
+    };
+    match next_effect(rest, signs) {
+        None => two_meet(first, second, wanted),
+        Some(_) => many_meet(effects, signs, wanted),
     }
-    let effect = effect_at(words, effects, signs, first);
-    let second = next_effect(words, effects, signs, first + 1);
-    if n <= second {
-        return one_meets(effect, tags, values);
-    }
-    let third = next_effect(words, effects, signs, second + 1);
-    if n <= third {
-        let later = effect_at(words, effects, signs, second);
-        return two_meet(effect, later, tags, values);
-    }
-    many_meet(words, effects, signs, tags, values)
 }
 
 // The same for all that a node with these rows wants, in whichever alternative. What stands before the first 8 belongs to none.
-pub fn relevance_to_node(
-    words: &[u16],
-    effects: Part,
-    signs: LiteralTags,
-    tags: &[u16],
-    values: &[u16],
-) -> Relevance
-    requires { Lies words.now effects }
-    ensures { relevance_of result ≡ relevance (literals signs.positive signs.negative (part_rows words.now effects))
-        (flatten (node_of (zip_with row tags.now values.now)).formula) }
+pub fn relevance_to_node(effects: Rows, signs: LiteralTags, node: Rows) -> Relevance
+    ensures { relevance_of result ≡ relevance (literals signs.positive signs.negative (rows_in effects.entry))
+        (flatten (node_of (rows_in node.entry)).formula) }
 {
-    let from = part::behind_first_alternative(tags, values);
-    let wanted_tags = &tags[from..];
-    let wanted_values = &values[from..];
-    relevance_of(words, effects, signs, wanted_tags, wanted_values)
+    relevance_of(effects, signs, part::behind_first_alternative(node))
 }

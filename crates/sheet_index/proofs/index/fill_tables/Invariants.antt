@@ -12,6 +12,3 @@ use Rattle.sheet_index.proofs.index.fill_tables.Given as goal
 abbrev pub invariant-loop-row : goal.invariant-loop-row
 invariant-loop-row l =
     (table : List ℕ) (q : Indexable l.words l.layout table l.operators) → l.initial.tables ≡ set table (most_rows + l.operators) l.layout.rows → FilledFrom q l.tables l.end l.operator l.row
-
-abbrev pub decreases-loop-row : goal.decreases-loop-row
-decreases-loop-row l = l.row

@@ -13,9 +13,10 @@ bounds-tables-at c = let p = c.requires in omega (arith, action_in_table p.1 _ p
 pub value-requires : goal.value-requires
 value-requires c =
     let p = c.requires in
-    (omega (arith, c.word-rows.ensures, start_below p.1 _ p.2 p.3 (most_rows + c.args.action - 1) (omega arith)), omega (arith, c.word-rows.ensures, (indexable p.1).fits))
+    let is = c.layout_of.ensures.0 in
+    (rw is (start_below p.1 _ p.2 p.3 (most_rows + c.args.action - 1) (omega arith)), rw is (indexable p.1).fits)
 
 pub returns : goal.returns
 returns c =
     let p = c.requires in
-    rw c.word-rows.ensures at c.value.ensures ∙ cost_read p.1 _ p.2 p.3 _ (omega arith)
+    rw c.layout_of.ensures.0 at c.value.ensures ∙ cost_read p.1 _ p.2 p.3 _ (omega arith)

@@ -9,8 +9,8 @@ bounds-tables-at c = let p = c.requires in omega (arith, ends_in_table p.1 _ p.2
 pub bounds-tables-at-2 : goal.bounds-tables-at-2
 bounds-tables-at-2 c = let p = c.requires in ends_in_table p.1 _ p.2 _ c.word-actions.ensures
 
-pub overflow_cast-first : goal.overflow_cast-first
-overflow_cast-first c = let p = c.requires in omega (arith, from_few p.1 _ p.2 _ c.word-actions.ensures)
+pub overflow_cast-result : goal.overflow_cast-result
+overflow_cast-result c = let p = c.requires in omega (arith, from_few p.1 _ p.2 _ c.word-actions.ensures)
 
 pub offset_bounds-tables-from : goal.offset_bounds-tables-from
 offset_bounds-tables-from c = let p = c.requires in omega (arith, from_few p.1 _ p.2 _ c.word-actions.ensures)

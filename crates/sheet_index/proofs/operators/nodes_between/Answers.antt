@@ -9,8 +9,8 @@ loop-row-init c = let p = c.requires in (p.0, p.1, p.2, passed_none _ p.1)
 pub overflow_add-count : goal.overflow_add-count
 overflow_add-count c = let i = c.loop-row.invariant in omega (arith, passed_few i.3, i.2)
 
-pub bounds-tables-at : goal.bounds-tables-at
-bounds-tables-at c = (ahead c.loop-row-test.true c.loop-row.invariant.3.onward).inside
+pub bounds-tables-row : goal.bounds-tables-row
+bounds-tables-row c = (ahead c.loop-row-test.true c.loop-row.invariant.3.onward).inside
 
 pub loop-row-smaller : goal.loop-row-smaller
 loop-row-smaller c = let f = ahead c.loop-row-test.true c.loop-row.invariant.3.onward in omega (arith, f.grows, f.below)

@@ -1,15 +1,10 @@
--- Before row `i` the values of the rows from there on are still to be assigned. Assumes nothing.
-use Prim.Native.Nat.{◌-◌}
+-- The values of the rows that are left are still to be assigned. Assumes nothing.
 use mathlib.Core.Path.{◌≡◌}
-use mathlib.Core.List.{zip_with}
-use lib.ListN.{length, drop}
-use Rattle.hgn.specs.Rows.{row}
+use lib.ListN.{length}
+use Rattle.sheet_index.specs.Index.{rows_in, rows_left}
 use Rattle.state.proofs.ByRow.{assigned_in}
 use Rattle.state.proofs.atoms.assign.Given as goal
 
-abbrev pub invariant-loop-i : goal.invariant-loop-i
-invariant-loop-i l =
-    (assigned_in l.to l.tag l.initial.atoms (zip_with row l.tags l.values) ≡ assigned_in l.to l.tag l.atoms (drop l.i (zip_with row l.tags l.values))) × (length l.atoms ≡ length l.initial.atoms)
-
-abbrev pub decreases-loop-i : goal.decreases-loop-i
-decreases-loop-i l = l.n - l.i
+abbrev pub invariant-loop-own : goal.invariant-loop-own
+invariant-loop-own l =
+    (assigned_in l.to l.tag l.initial.atoms (rows_in l.rows) ≡ assigned_in l.to l.tag l.atoms (rows_left l.own-iterator)) × (length l.atoms ≡ length l.initial.atoms)

@@ -1,17 +1,14 @@
--- Before row `i` the literal is met as it is by what was met so far and the rows from there on (`met_in`). Assumes nothing.
-use Prim.Native.Nat.{◌-◌}
+-- The literal is met as it is by what was met so far and the rows that are left (`met_in`). Assumes nothing.
+use mathlib.Core.Path.{◌≡◌}
 use mathlib.Core.List.{[], ◌∷◌}
 use Rattle.hgn.specs.Meaning.{literals}
-use Rattle.sheet_index.specs.Index.{part_rows}
+use Rattle.sheet_index.specs.Index.{rows_in, rows_left}
+use Rattle.state.specs.Literals.{literal_of}
 use Rattle.state.specs.Effects.{met_of}
-use Rattle.state.proofs.Walks.{part_at, Ahead}
 use Rattle.state.proofs.Meetings.{met_in}
 use Rattle.state.proofs.literals.part_met.Given as goal
 
-abbrev pub invariant-loop-i : goal.invariant-loop-i
-invariant-loop-i l =
-    Ahead l.words (part_at l.tags l.values l.n) (met_of (literals l.yes l.no (part_rows l.words (part_at l.tags l.values l.n))) (record { sign = l.sign; atom = l.atom.0 } ∷ []))
-    (met_in (record { sign = l.sign; atom = l.atom.0 }) l.yes l.no l.same) l.i
-
-abbrev pub decreases-loop-i : goal.decreases-loop-i
-decreases-loop-i l = l.n - l.i
+abbrev pub invariant-loop-tag : goal.invariant-loop-tag
+invariant-loop-tag l =
+    met_of (literals l.signs.positive l.signs.negative (rows_in l.effects)) (literal_of l.wanted ∷ [])
+    ≡ met_in (literal_of l.wanted) l.signs.positive l.signs.negative l.met (rows_left l.tag-iterator)

@@ -1,11 +1,9 @@
--- Before row `i` no row has failed, or the first that did is told and no row is left. Assumes nothing.
-use Prim.Native.Nat.{◌-◌}
-use Rattle.state.proofs.Walks.{part_at}
-use Rattle.state.proofs.Tests.{Walked}
+-- Every literal before the rows that are left holds. Assumes nothing.
+use mathlib.Core.Path.{◌≡◌}
+use Rattle.sheet_index.specs.Index.{rows_in, rows_left}
+use Rattle.state.proofs.ByRow.{told_in}
 use Rattle.state.proofs.literals.test_literals.Given as goal
 
-abbrev pub invariant-loop-i : goal.invariant-loop-i
-invariant-loop-i l = Walked l.atoms l.words (part_at l.tags l.values l.n) l.yes l.no l.test l.i
-
-abbrev pub decreases-loop-i : goal.decreases-loop-i
-decreases-loop-i l = l.n - l.i
+abbrev pub invariant-loop-tag : goal.invariant-loop-tag
+invariant-loop-tag l =
+    told_in l.atoms l.signs.positive l.signs.negative (rows_in l.rows) ≡ told_in l.atoms l.signs.positive l.signs.negative (rows_left l.tag-iterator)

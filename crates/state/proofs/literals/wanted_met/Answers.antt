@@ -1,18 +1,11 @@
--- A row that wants a literal is asked of, any other wants none. Assumes nothing.
+-- A row without a literal wants none. Assumes nothing.
 use Rattle.hgn.specs.Lists.{any}
-use Rattle.hgn.specs.Meaning.{literals}
 use Rattle.state.specs.Effects.{met_of}
-use Rattle.state.proofs.ByRow.{true_row, false_row, no_row}
 use Rattle.state.proofs.literals.wanted_met.Goals as goal
 
-pub returns-then-tag-eq-WANTED_TRUE : goal.returns-then-tag-eq-WANTED_TRUE
-unfolding met_of any literals
-returns-then-tag-eq-WANTED_TRUE c = rw (true_row _ _ _ _ c.if-tag-eq-WANTED_TRUE.true) c.part_met.ensures
+pub returns-in-Some : goal.returns-in-Some
+returns-in-Some c = rw (← c.in-Some.ensures) c.part_met.ensures
 
-pub returns-then-tag-eq-WANTED_FALSE : goal.returns-then-tag-eq-WANTED_FALSE
-unfolding met_of any literals
-returns-then-tag-eq-WANTED_FALSE c = rw (false_row _ _ _ _ c.if-tag-eq-WANTED_TRUE.false c.if-tag-eq-WANTED_FALSE.true) c.part_met-then-tag-eq-WANTED_FALSE.ensures
-
-pub returns : goal.returns
-unfolding met_of any literals
-returns c = rw (no_row _ _ _ _ c.if-tag-eq-WANTED_TRUE.false c.if-tag-eq-WANTED_FALSE.false)
+pub returns-in-None : goal.returns-in-None
+unfolding met_of any
+returns-in-None c = rw (← c.in-None.ensures)

@@ -5,4 +5,4 @@ use Rattle.hgn.proofs.Logic.Relevance.{relevant_helping}
 use Rattle.state.proofs.parts.relevant_to.Goals as goal
 
 pub returns : goal.returns
-returns c = c.is_helping.ensures ∙ ap is_helping c.relevance_to-told.ensures ∙ sym (relevant_helping _ _)
+returns c = c.is_helping.ensures ∙ ap is_helping c.relevance_to.ensures ∙ sym (relevant_helping _ _)

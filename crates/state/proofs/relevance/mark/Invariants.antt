@@ -1,14 +1,7 @@
--- Before row `i` the rows from there on are still to leave their marks. Assumes nothing.
-use Prim.Native.Nat.{◌-◌}
-use mathlib.Core.List.{zip_with}
-use lib.ListN.{drop}
-use Rattle.hgn.specs.Rows.{row}
+-- The rows that are left are still to leave their marks. Assumes nothing.
+use Rattle.sheet_index.specs.Index.{rows_in, rows_left}
 use Rattle.state.proofs.Relevances.{Marking}
 use Rattle.state.proofs.relevance.mark.Given as goal
 
-abbrev pub invariant-loop-i : goal.invariant-loop-i
-invariant-loop-i l =
-    Marking (zip_with row l.tags l.values) l.initial.positive l.initial.negative l.positive l.negative (drop l.i (zip_with row l.tags l.values))
-
-abbrev pub decreases-loop-i : goal.decreases-loop-i
-decreases-loop-i l = l.n - l.i
+abbrev pub invariant-loop-tag : goal.invariant-loop-tag
+invariant-loop-tag l = Marking (rows_in l.wanted) l.initial.positive l.initial.negative l.positive l.negative (rows_left l.tag-iterator)

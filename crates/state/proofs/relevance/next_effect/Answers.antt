@@ -1,19 +1,30 @@
 -- The facts that the loop leaves. Assumes nothing.
-use mathlib.Core.Path.{refl}
-use Rattle.state.proofs.Relevances.{effect_true, effect_false, effect_later, effect_none}
+use native.Mathlib.Omega.{arith}
+use mathlib.Core.Path.{refl, ◌∙◌}
+use Rattle.hgn.specs.Meaning.{literals}
+use Rattle.sheet_index.specs.Index.{rows_in}
+use Rattle.sheet_index.proofs.Columns.{row_at, none_from, by_rows}
+use Rattle.state.specs.Relevances.{effects_in}
+use Rattle.state.proofs.ByRow.{row_literals}
 use Rattle.state.proofs.relevance.next_effect.Goals as goal
 
-pub loop-i-init : goal.loop-i-init
-loop-i-init c v h = record { lies = h; known = refl }
-
-pub returns-then-tag-signs : goal.returns-then-tag-signs
-returns-then-tag-signs c = effect_true _ _ _ (c.loop-i.invariant _ c.requires) c.loop-i-test.true c.if-tag-signs.true
-
-pub returns-then-tag-signs-2 : goal.returns-then-tag-signs-2
-returns-then-tag-signs-2 c = effect_false _ _ _ (c.loop-i.invariant _ c.requires) c.loop-i-test.true c.if-tag-signs.false c.if-tag-signs-2.true
-
 pub loop-i-preserved : goal.loop-i-preserved
-loop-i-preserved c v h = effect_later _ c.args.from _ (c.loop-i.invariant v h) c.loop-i-test.true c.if-tag-signs.false c.if-tag-signs-2.false
+unfolding rows_in
+loop-i-preserved c =
+    let n = c.count-i-end.ensures in
+    by_rows (effects_in c.args.signs) c.loop-i.invariant
+    (row_at c.args.effects.tags.now c.args.effects.values.now c.loop-i.i (omega (arith, n)) (omega (arith, n))) (row_literals _ _ _ _ c.in_default.ensures)
+
+pub returns-in-Some : goal.returns-in-Some
+unfolding rows_in
+returns-in-Some c =
+    let n = c.count-i-end.ensures in
+    by_rows (effects_in c.args.signs) c.loop-i.invariant
+    (row_at c.args.effects.tags.now c.args.effects.values.now c.loop-i.i (omega (arith, n)) (omega (arith, n)))
+    (row_literals _ _ _ _ c.in-Some.ensures ∙ rw c.skip.ensures)
 
 pub returns : goal.returns
-returns c = effect_none _ _ _ (c.loop-i.invariant _ c.requires) c.loop-i-test.false
+unfolding rows_in literals
+returns c =
+    by_rows (effects_in c.args.signs) c.loop-i.invariant
+    (none_from c.args.effects.tags.now c.args.effects.values.now c.loop-i.i (omega (arith, c.count-i-end.ensures))) refl

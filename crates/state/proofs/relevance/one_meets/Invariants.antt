@@ -1,14 +1,7 @@
--- Before row `i` the effect's atom is wanted by a row before, or by those from there on (`Seen`). Assumes nothing.
-use Prim.Native.Nat.{◌-◌}
-use mathlib.Core.List.{zip_with}
-use lib.ListN.{drop}
-use Rattle.hgn.specs.Rows.{row}
+-- The effect's atom is wanted by a row before, or by those that are left (`Seen`). Assumes nothing.
+use Rattle.sheet_index.specs.Index.{rows_in, rows_left}
 use Rattle.state.proofs.Relevances.{Seen}
 use Rattle.state.proofs.relevance.one_meets.Given as goal
 
-abbrev pub invariant-loop-i : goal.invariant-loop-i
-invariant-loop-i l =
-    Seen (zip_with row l.tags l.values) l.effect.atom.0 l.positive l.negative (drop l.i (zip_with row l.tags l.values))
-
-abbrev pub decreases-loop-i : goal.decreases-loop-i
-decreases-loop-i l = l.n - l.i
+abbrev pub invariant-loop-tag : goal.invariant-loop-tag
+invariant-loop-tag l = Seen (rows_in l.wanted) l.effect.atom.0 l.positive l.negative (rows_left l.tag-iterator)

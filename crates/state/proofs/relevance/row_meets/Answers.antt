@@ -1,19 +1,10 @@
--- A row's effect is a true one, a false one, or none. Assumes nothing.
-use mathlib.Core.Path.{refl}
-use mathlib.Core.List.{[]}
-use Rattle.hgn.specs.Meaning.{literals}
-use Rattle.state.proofs.ByRow.{true_row, false_row, no_row}
+-- A row without an effect does nothing. Assumes nothing.
+use mathlib.Core.Path.{sym}
 use Rattle.state.proofs.Relevances.{none_meet}
 use Rattle.state.proofs.relevance.row_meets.Goals as goal
 
-pub returns-then-tag-signs : goal.returns-then-tag-signs
-unfolding literals
-returns-then-tag-signs c = rw (true_row _ _ _ _ c.if-tag-signs.true) c.effect_meets.ensures
+pub returns-in-Some : goal.returns-in-Some
+returns-in-Some c = rw (← c.in-Some.ensures) c.effect_meets.ensures
 
-pub returns-then-tag-signs-2 : goal.returns-then-tag-signs-2
-unfolding literals
-returns-then-tag-signs-2 c = rw (false_row _ _ _ _ c.if-tag-signs.false c.if-tag-signs-2.true) c.effect_meets-then-tag-signs-2.ensures
-
-pub returns : goal.returns
-unfolding literals
-returns c = rw (no_row _ _ _ [] c.if-tag-signs.false c.if-tag-signs-2.false) (none_meet _ refl)
+pub returns-in-None : goal.returns-in-None
+returns-in-None c = none_meet _ (sym c.in-None.ensures)

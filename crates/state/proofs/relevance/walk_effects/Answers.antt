@@ -1,27 +1,28 @@
 -- The facts that the loop leaves. Assumes nothing.
 use mathlib.Core.Path.{sym, ap, ◌∙◌}
-use mathlib.Core.List.{zip_with}
-use Rattle.hgn.specs.Rows.{row}
+use Rattle.sheet_index.specs.Index.{rows_in}
+use Rattle.sheet_index.proofs.Columns.{next_row, no_row_left, by_rows}
 use Rattle.state.specs.Relevances.{relevance_of, wanted_in}
-use Rattle.state.proofs.Walks.{row_inside, row_next, row_none}
-use Rattle.state.proofs.Relevances.{told_first, told_on, told_blocked, told_all}
+use Rattle.state.proofs.Relevances.{told_from, told_first, told_on, told_blocked, told_all}
 use Rattle.state.proofs.relevance.walk_effects.Goals as goal
 
-pub loop-i-init : goal.loop-i-init
-loop-i-init c = record { lies = c.requires.0; known = told_first _ _ _ }
+pub loop-tag-init : goal.loop-tag-init
+loop-tag-init c = told_first _ _ _ ∙ rw (c.into_iter-tag-iterator.ensures.into_iter_gives, c.iter-tag-items.ensures)
 
 pub returns-in-Blocked : goal.returns-in-Blocked
 returns-in-Blocked c =
-    sym (row_inside c.loop-i.invariant c.loop-i-test.true
-    (told_blocked (wanted_in (zip_with row c.args.tags.now c.args.values.now)) _ _ _ _ c.row_meets-here.ensures c.followed_by-told.ensures (ap relevance_of c.in-Blocked.is)))
+    ap relevance_of c.in-Blocked.is
+    ∙ sym (by_rows (told_from (wanted_in (rows_in c.args.wanted)) c.args.signs (relevance_of c.loop-tag.told)) c.loop-tag.invariant
+    (next_row c.loop-tag.tag-iterator c.next.new.self c.next.ensures.steps c.in-Some.is)
+    (told_blocked (wanted_in (rows_in c.args.wanted)) _ _ _ _ c.row_meets.ensures c.followed_by-told.ensures (ap relevance_of c.in-Blocked.is)))
 
-pub loop-i-preserved-in-Helping-1 : goal.loop-i-preserved-in-Helping-1
-loop-i-preserved-in-Helping-1 c =
-    row_next c.loop-i.invariant c.loop-i-test.true
-    (told_on (wanted_in (zip_with row c.args.tags.now c.args.values.now)) _ _ _ _ c.row_meets-here.ensures (sym (ap relevance_of c.in-Helping.is) ∙ c.followed_by-told.ensures))
-
-pub loop-i-preserved : goal.loop-i-preserved
-loop-i-preserved c = row_next c.loop-i.invariant c.loop-i-test.true (told_on (wanted_in (zip_with row c.args.tags.now c.args.values.now)) _ _ _ _ c.row_meets-here.ensures c.followed_by-told.ensures)
+pub loop-tag-preserved : goal.loop-tag-preserved
+loop-tag-preserved c =
+    by_rows (told_from (wanted_in (rows_in c.args.wanted)) c.args.signs (relevance_of c.loop-tag.told)) c.loop-tag.invariant
+    (next_row c.loop-tag.tag-iterator c.next.new.self c.next.ensures.steps c.in-Some.is)
+    (told_on (wanted_in (rows_in c.args.wanted)) _ _ _ _ c.row_meets.ensures c.followed_by-told.ensures)
 
 pub returns : goal.returns
-returns c = sym (row_none c.loop-i.invariant c.loop-i-test.false (told_all _ _ _))
+returns c =
+    sym (by_rows (told_from (wanted_in (rows_in c.args.wanted)) c.args.signs (relevance_of c.loop-tag.told)) c.loop-tag.invariant
+    (no_row_left c.loop-tag.tag-iterator c.next.new.self c.next.ensures.steps c.in-None.is) (told_all (wanted_in (rows_in c.args.wanted)) _ _))
