@@ -1,21 +1,22 @@
 -- The 11 rows of a node, counted row by row, and how often a goal is listed after another. Assumes nothing.
 use Prim.Native.Nat.{ℕ, zero, suc, ◌+◌, ◌<◌, ◌≤◌}
 use native.Mathlib.Omega.{arith}
-use mathlib.Core.Path.{◌≡◌, refl, sym, ◌∙◌}
-use mathlib.Core.Bool.{Bool, true, false, cond}
+use mathlib.Core.Path.{◌≡◌, refl, sym, ap, ◌∙◌}
+use mathlib.Core.Bool.{Bool, true, false, cond, ◌&&◌}
 use mathlib.Core.List.{List, [], ◌∷◌}
 use lib.Dec.{eqb}
+use Rattle.std.specs.Prelude.{Option, Some, None}
+use Rattle.std.specs.Option.{option_eq}
 use lib.ListN.{length}
 use borrow.Author.Tests.{eqb-true, eqb-false, eq-eqb, ne_eqb}
 use Rattle.hgn.specs.Lists.{range}
 use Rattle.hgn.proofs.Logic.Ranges.{length_range}
 use Rattle.hgn.specs.Rows.{Row, row, values_tagged}
-use Rattle.hgn.specs.Network.{same_origin, is_parent}
-use Rattle.network.specs.Entries.{order_origin, origin_of, name_of, waiting_of, same_entry_name}
+use Rattle.hgn.specs.Network.{same_origin, same_name, is_parent}
+use Rattle.network.specs.Entries.{origin_of, step_in, name_in, name_of, waiting_of}
 use Rattle.sheet_index.specs.Index.{span_rows}
-use Rattle.network.specs.declared.waiting.Entry.{Entry}
 use Rattle.network.specs.declared.waiting.Name.{Name}
-use Rattle.hgn.specs.Network as Network
+use Rattle.network.specs.declared.waiting.Entry.{Entry}
 use Rattle.network.specs.Pending.{occurrences, by_network, times_listed}
 
 module _ (tag value : ℕ) (rs : List Row) where
@@ -45,6 +46,28 @@ module _ (tag value : ℕ) (rs : List Row) where
 
     pub found_other : (tag ≡ 11 → ⊥) → found + occurrences n (values_tagged 11 (row tag value ∷ rs)) ≡ found + occurrences n (values_tagged 11 rs)
     found_other e = rw (other_row e)
+
+-- There are no more 11 rows than rows, and a number stands in no more than that.
+pub counted_few : (rs : List Row) → length (values_tagged 11 rs) ≤ length rs
+unfolding values_tagged
+counted_few [] = omega arith
+counted_few (r ∷ rs) = go (eqb r.tag 11) (counted_few rs)
+  where
+    go : (b : Bool) → length (values_tagged 11 rs) ≤ length rs → length (cond b (r.value ∷ values_tagged 11 rs) (values_tagged 11 rs)) ≤ suc (length rs)
+    go true h = omega arith
+    go false h = omega arith
+
+occurrences_few : (n : ℕ) (ks : List ℕ) → occurrences n ks ≤ length ks
+unfolding occurrences
+occurrences_few n [] = omega arith
+occurrences_few n (k ∷ ks) = go (eqb n k) (occurrences_few n ks)
+  where
+    go : (b : Bool) → occurrences n ks ≤ length ks → cond b (suc (occurrences n ks)) (occurrences n ks) ≤ suc (length ks)
+    go true h = omega arith
+    go false h = omega arith
+
+pub found_few : (n : ℕ) (rs : List Row) → occurrences n (values_tagged 11 rs) ≤ length rs
+found_few n rs = omega (arith, occurrences_few n (values_tagged 11 rs), counted_few rs)
 
 -- No row is left.
 pub found_none : (n found : ℕ) → found + occurrences n (values_tagged 11 []) ≡ found
@@ -82,9 +105,9 @@ module _ (k : ℕ) where
 
 -- How often a goal is listed after the nodes of its network.
 module _ (shop order : List ℕ) (goal : Entry) where
-  pub last_afters : goal.last ≡ true → goal.name.number ≡ length (waiting_of shop order goal).after
+  pub last_afters : goal.last ≡ true → goal.number ≡ length (waiting_of shop order goal).after
   unfolding waiting_of
-  last_afters e = rw e (sym (length_range 0 goal.name.number))
+  last_afters e = rw e (sym (length_range 0 goal.number))
 
   pub row_afters : (rows : List Row) → goal.last ≡ false → rows ≡ span_rows shop order goal.rows
       → length (values_tagged 11 rows) ≡ length (waiting_of shop order goal).after
@@ -92,74 +115,57 @@ module _ (shop order : List ℕ) (goal : Entry) where
   row_afters rows e q = rw (e, q)
 
   module _ (k : ℕ) where
-    pub last_listed : goal.last ≡ true → k < goal.name.number → 1 ≡ occurrences k (waiting_of shop order goal).after
+    pub last_listed : goal.last ≡ true → k < goal.number → 1 ≡ occurrences k (waiting_of shop order goal).after
     unfolding waiting_of
-    last_listed e h = rw e (sym (range_once k 0 goal.name.number (omega arith) (omega arith)))
+    last_listed e h = rw e (sym (range_once k 0 goal.number (omega arith) (omega arith)))
 
-    pub last_unlisted : goal.last ≡ true → goal.name.number ≤ k → 0 ≡ occurrences k (waiting_of shop order goal).after
+    pub last_unlisted : goal.last ≡ true → goal.number ≤ k → 0 ≡ occurrences k (waiting_of shop order goal).after
     unfolding waiting_of
-    last_unlisted e h = rw e (sym (range_never k 0 goal.name.number (omega arith)))
+    last_unlisted e h = rw e (sym (range_never k 0 goal.number (omega arith)))
 
     pub row_listed : (rows : List Row) → goal.last ≡ false → rows ≡ span_rows shop order goal.rows
         → occurrences k (values_tagged 11 rows) ≡ occurrences k (waiting_of shop order goal).after
     unfolding waiting_of
     row_listed rows e q = rw (e, q)
 
--- Origins are the same exactly when their numbers are.
-same_origin_law : (a b : ℕ) → same_origin (origin_of a) (origin_of b) ≡ eqb a b
+-- Two networks are the same where their steps are.
+pub same_network : (a b : Option ℕ) → option_eq eqb a b ≡ same_origin (origin_of a) (origin_of b)
 unfolding same_origin
-same_origin_law a b = go (eqb a order_origin) (eqb b order_origin) refl refl
-  where
-    go : (x y : Bool) → eqb a order_origin ≡ x → eqb b order_origin ≡ y
-        → same_origin (cond x Network.from_order (Network.from_step a)) (cond y Network.from_order (Network.from_step b)) ≡ eqb a b
-    go true true p q = sym (eq-eqb a b (eqb-true a order_origin p ∙ sym (eqb-true b order_origin q)))
-    go true false p q = sym (ne_eqb a b (λ e. eqb-false b order_origin q (sym e ∙ eqb-true a order_origin p)))
-    go false true p q = sym (ne_eqb a b (λ e. eqb-false a order_origin p (e ∙ eqb-true b order_origin q)))
-    go false false p q = refl
+same_network (Some m) (Some n) = refl
+same_network (Some m) None = refl
+same_network None (Some n) = refl
+same_network None None = refl
 
--- Whether the other came with a method used at the goal.
-module _ (shop order : List ℕ) (name : Name) (other : Entry) where
-  pub no_parent : other.name.origin ≡ order_origin → ◌≡◌ {A = ℕ} 0 (cond (is_parent (name_of name) (waiting_of shop order other).parent) 1 0)
-  unfolding waiting_of is_parent
-  no_parent o = rw (eq-eqb _ _ o)
-
-  pub its_parent : (other.name.origin ≡ order_origin → ⊥) → is_parent (name_of name) (waiting_of shop order other).parent ≡ same_entry_name name other.parent
-  unfolding waiting_of is_parent Network.same_name
-  its_parent o = rw (ne_eqb _ _ o, same_origin_law name.origin other.parent.origin)
-
-  pub by_parent : (other.name.origin ≡ order_origin → ⊥) → same_entry_name name other.parent ≡ true
-      → ◌≡◌ {A = ℕ} 1 (cond (is_parent (name_of name) (waiting_of shop order other).parent) 1 0)
-  by_parent o e = rw (its_parent o, e)
-
-  pub not_by_parent : (other.name.origin ≡ order_origin → ⊥) → same_entry_name name other.parent ≡ false
-      → ◌≡◌ {A = ℕ} 0 (cond (is_parent (name_of name) (waiting_of shop order other).parent) 1 0)
-  not_by_parent o e = rw (its_parent o, e)
+pub same_names : (a b : Name) → (option_eq eqb a.step b.step && eqb a.number b.number) ≡ same_name (name_of a) (name_of b)
+unfolding same_name
+same_names a b = ap (λ (t : Bool). t && eqb a.number b.number) (same_network a.step b.step)
 
 -- Both together.
 module _ (shop order : List ℕ) (goal other : Entry) where
   abbrev subgoal : ℕ
-  subgoal = cond (is_parent (name_of goal.name) (waiting_of shop order other).parent) 1 0
+  subgoal = cond (is_parent (name_of (name_in goal)) (waiting_of shop order other).parent) 1 0
 
   abbrev after_node : ℕ
-  after_node = occurrences other.name.number (waiting_of shop order goal).after
+  after_node = occurrences other.number (waiting_of shop order goal).after
 
-  network_is : {b : Bool} → eqb goal.name.origin other.name.origin ≡ b → by_network (waiting_of shop order goal) (waiting_of shop order other) ≡ cond b after_node 0
+  network_is : {b : Bool} → same_origin (origin_of (step_in goal.source)) (origin_of (step_in other.source)) ≡ b
+      → by_network (waiting_of shop order goal) (waiting_of shop order other) ≡ cond b after_node 0
   unfolding waiting_of
-  network_is e = rw (same_origin_law goal.name.origin other.name.origin, e)
+  network_is e = rw e
 
-  pub listed_there : (n : ℕ) → goal.name.origin ≡ other.name.origin → n ≡ after_node → (n ≡ 0 → ⊥)
+  pub listed_there : (n : ℕ) → option_eq eqb (step_in goal.source) (step_in other.source) ≡ true → n ≡ after_node → (n ≡ 0 → ⊥)
       → n ≡ times_listed (waiting_of shop order goal) (waiting_of shop order other)
   unfolding times_listed
-  listed_there n o e z = let h = network_is (eq-eqb _ _ o) ∙ sym e in sym (rw (h, ne_eqb n 0 z))
+  listed_there n o e z = let h = network_is (sym (same_network _ _) ∙ o) ∙ sym e in sym (rw (h, ne_eqb n 0 z))
 
   pub listed_not_there : (n : ℕ) → n ≡ subgoal → by_network (waiting_of shop order goal) (waiting_of shop order other) ≡ 0
       → n ≡ times_listed (waiting_of shop order goal) (waiting_of shop order other)
   unfolding times_listed waiting_of
   listed_not_there n e h = e ∙ sym (rw h)
 
-  pub same_but_none : goal.name.origin ≡ other.name.origin → (n : ℕ) → n ≡ after_node → n ≡ 0
+  pub same_but_none : option_eq eqb (step_in goal.source) (step_in other.source) ≡ true → (n : ℕ) → n ≡ after_node → n ≡ 0
       → by_network (waiting_of shop order goal) (waiting_of shop order other) ≡ 0
-  same_but_none o n e z = network_is (eq-eqb _ _ o) ∙ sym e ∙ z
+  same_but_none o n e z = network_is (sym (same_network _ _) ∙ o) ∙ sym e ∙ z
 
-  pub other_network : (goal.name.origin ≡ other.name.origin → ⊥) → by_network (waiting_of shop order goal) (waiting_of shop order other) ≡ 0
-  other_network o = network_is (ne_eqb _ _ o)
+  pub in_other_network : option_eq eqb (step_in goal.source) (step_in other.source) ≡ false → by_network (waiting_of shop order goal) (waiting_of shop order other) ≡ 0
+  in_other_network o = network_is (sym (same_network _ _) ∙ o)

@@ -6,6 +6,7 @@ pub mod Counts
 pub mod Pending
 pub mod Reaching
 pub mod PendingCounts
-pub mod Words
+pub mod Lowering
+pub mod Writing
 pub mod WaitingGoals
-pub mod Entering
+pub mod Moved

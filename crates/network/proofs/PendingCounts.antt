@@ -27,7 +27,6 @@ use Rattle.hgn.proofs.Network.Reached.{Ordered}
 use Rattle.sheet_index.specs.Tables.{Indexed}
 use Rattle.network.proofs.Gaps.{behind_gap}
 use Rattle.network.specs.Pending.{times_listed, pending, PendingCounts}
-use Rattle.network.specs.Shifts.{EnteredCounts}
 use Rattle.network.proofs.Counts.{Entered, Released}
 use Rattle.network.proofs.Pending.{none_pending, listed_none, pending_released, pending_inserted, pending_entered, pending_parent, pending_other, pending_waiting, pending_new}
 
@@ -49,15 +48,12 @@ listed_lower (q ∷ w) o zero j a b = o.0 (goal_at (q ∷ w) j) (goal_mem (q ∷
 listed_lower (q ∷ w) o (suc i) zero a b = absurd (not-suc-le-zero a)
 listed_lower (q ∷ w) o (suc i) (suc j) a b = listed_lower w o.1 i j (le_of_suc-le-suc a) (le_of_suc-le-suc b)
 
--- The order's goals at the start.
-pub counted_start : (o : Order) → Numbered 0 o.goals → (c r : List ℕ) → EnteredCounts (goals_of o) 0 (length (goals_of o)) c r → PendingCounts (goals_of o) r
+-- The order's goals at the start: each counts the goals that it is listed after.
+pub counted_start : (o : Order) → Numbered 0 o.goals → (c : List ℕ) → ((k : ℕ) → k < length (goals_of o) → get_or c k 0 ≡ length (goal_at (goals_of o) k).after)
+    → PendingCounts (goals_of o) c
 unfolding goals_of
-counted_start o h c r f k b =
-    let e : 0 + k ≡ k = omega arith in
-    ap (λ (j : ℕ). get_or r j 0) (sym e)
-    ∙ f.filled k b
-    ∙ ap (λ (j : ℕ). length (goal_at (goals_of o) j).after) e
-    ∙ sym (pending_entered order none o.goals h (λ a z. absurd (none-ne-some a z)) (goal_at (goals_of o) k) (goal_mem (goals_of o) k b))
+counted_start o h c f k b =
+    f k b ∙ sym (pending_entered order none o.goals h (λ a z. absurd (none-ne-some a z)) (goal_at (goals_of o) k) (goal_mem (goals_of o) k b))
 
 -- A release.
 module _ (w : List Waiting) (p : ℕ) (h : p < length w) where
@@ -196,9 +192,8 @@ module _ {shop sheet table : List ℕ} (i : Indexed shop sheet table) (m : ℕ) 
 
 -- The counts of an order's goals, read of the list that they are.
 pub counted_first : (shop sheet : List ℕ) → check_order shop sheet ≡ passed → {w : List Waiting} → w ≡ goals_of (OrderSheet.order sheet)
-    → {n : ℕ} → n ≡ length w → {c r : List ℕ} → EnteredCounts w 0 n c r → PendingCounts w r
-counted_first shop sheet passes {w} e {n} k {c} {r} f =
+    → (c : List ℕ) → ((k : ℕ) → k < length w → get_or c k 0 ≡ length (goal_at w k).after) → PendingCounts w c
+counted_first shop sheet passes {w} e c f =
     let o = OrderSheet.order sheet in
-    let g : EnteredCounts (goals_of o) 0 n c r = subst (λ (l : List Waiting). EnteredCounts l 0 n c r) e f in
-    subst (λ (l : List Waiting). PendingCounts l r) (sym e)
-    (counted_start o (order_numbered shop sheet passes) c r (subst (λ (j : ℕ). EnteredCounts (goals_of o) 0 j c r) (k ∙ ap length e) g))
+    let g = subst (λ (l : List Waiting). (k : ℕ) → k < length l → get_or c k 0 ≡ length (goal_at l k).after) e f in
+    subst (λ (l : List Waiting). PendingCounts l c) (sym e) (counted_start o (order_numbered shop sheet passes) c g)

@@ -2,6 +2,5 @@
 pub mod Entries
 pub mod Entering
 pub mod Pending
-pub mod Shifts
 pub mod Reaching
 pub mod Goals

@@ -4,29 +4,32 @@ use native.Mathlib.Omega.{arith}
 use mathlib.Core.Path.{sym}
 use lib.ListN.{length}
 use Rattle.hgn.specs.Rows.{values_tagged}
-use Rattle.state.proofs.Walks.{by_row, at_end}
-use Rattle.network.proofs.Afters.{counted_after, counted_other, counted_none}
+use Rattle.sheet_index.specs.Index.{rows_in}
+use Rattle.sheet_index.proofs.Columns.{next_row, no_row_left, by_rows, rows_few}
+use Rattle.network.proofs.Afters.{counted_after, counted_other, counted_none, counted_few}
 use Rattle.network.proofs.listed.count_afters.Goals as goal
 
-pub loop-i-init : goal.loop-i-init
-loop-i-init c = (omega arith, omega arith)
+pub loop-tag-init : goal.loop-tag-init
+loop-tag-init c = rw (c.into_iter-tag-iterator.ensures.into_iter_gives, c.iter-tag-items.ensures) (omega arith)
 
+-- No more are counted than there are rows.
 pub overflow_add-found : goal.overflow_add-found
-overflow_add-found c = omega (arith, c.loop-i.invariant.1)
+overflow_add-found c =
+    let more = by_rows (λ rs. c.loop-tag.found + length (values_tagged 11 rs)) c.loop-tag.invariant
+    (next_row c.loop-tag.tag-iterator c.next.new.self c.next.ensures.steps c.in-Some.is) (counted_after _ _ _ _ c.if-tag-eq-AFTER.true) in
+    omega (arith, more, counted_few (rows_in c.args.node), rows_few c.args.node, c.ranges.node)
 
-pub loop-i-preserved-then-tags-row-eq-AFTER : goal.loop-i-preserved-then-tags-row-eq-AFTER
-loop-i-preserved-then-tags-row-eq-AFTER c = (
-  by_row (λ rs. c.loop-i.found + length (values_tagged 11 rs)) _ _ _ _ c.rows-n.ensures c.loop-i.invariant.0 c.loop-i-test.true
-      (counted_after _ _ _ _ c.if-tags-row-eq-AFTER.true),
-  omega (arith, c.loop-i.invariant.1),
-)
+pub loop-tag-preserved-then-tag-eq-AFTER : goal.loop-tag-preserved-then-tag-eq-AFTER
+loop-tag-preserved-then-tag-eq-AFTER c =
+    by_rows (λ rs. c.loop-tag.found + length (values_tagged 11 rs)) c.loop-tag.invariant
+    (next_row c.loop-tag.tag-iterator c.next.new.self c.next.ensures.steps c.in-Some.is) (counted_after _ _ _ _ c.if-tag-eq-AFTER.true)
 
-pub loop-i-preserved : goal.loop-i-preserved
-loop-i-preserved c = (
-  by_row (λ rs. c.loop-i.found + length (values_tagged 11 rs)) _ _ _ _ c.rows-n.ensures c.loop-i.invariant.0 c.loop-i-test.true
-      (counted_other _ _ _ _ c.if-tags-row-eq-AFTER.false),
-  omega (arith, c.loop-i.invariant.1),
-)
+pub loop-tag-preserved : goal.loop-tag-preserved
+loop-tag-preserved c =
+    by_rows (λ rs. c.loop-tag.found + length (values_tagged 11 rs)) c.loop-tag.invariant
+    (next_row c.loop-tag.tag-iterator c.next.new.self c.next.ensures.steps c.in-Some.is) (counted_other _ _ _ _ c.if-tag-eq-AFTER.false)
 
 pub returns : goal.returns
-returns c = sym (at_end (λ rs. c.loop-i.found + length (values_tagged 11 rs)) _ _ _ _ c.rows-n.ensures c.loop-i.invariant.0 c.loop-i-test.false (counted_none _))
+returns c =
+    sym (by_rows (λ rs. c.loop-tag.found + length (values_tagged 11 rs)) c.loop-tag.invariant
+    (no_row_left c.loop-tag.tag-iterator c.next.new.self c.next.ensures.steps c.in-None.is) (counted_none _))

@@ -1,14 +1,10 @@
--- What was counted and the 11 rows from `i` on come to all. Assumes nothing.
-use Prim.Native.Nat.{◌+◌, ◌-◌, ◌≤◌}
+-- What was counted and the 11 rows that are left come to all. Assumes nothing.
+use Prim.Native.Nat.{◌+◌}
 use mathlib.Core.Path.{◌≡◌}
-use mathlib.Core.List.{zip_with}
-use lib.ListN.{length, drop}
-use Rattle.hgn.specs.Rows.{row, values_tagged}
+use lib.ListN.{length}
+use Rattle.hgn.specs.Rows.{values_tagged}
+use Rattle.sheet_index.specs.Index.{rows_in, rows_left}
 use Rattle.network.proofs.listed.count_afters.Given as goal
 
-abbrev pub invariant-loop-i : goal.invariant-loop-i
-invariant-loop-i l =
-    (length (values_tagged 11 (zip_with row l.tags l.values)) ≡ l.found + length (values_tagged 11 (drop l.i (zip_with row l.tags l.values)))) × (l.found ≤ l.i)
-
-abbrev pub decreases-loop-i : goal.decreases-loop-i
-decreases-loop-i l = l.n - l.i
+abbrev pub invariant-loop-tag : goal.invariant-loop-tag
+invariant-loop-tag l = length (values_tagged 11 (rows_in l.node)) ≡ l.found + length (values_tagged 11 (rows_left l.tag-iterator))

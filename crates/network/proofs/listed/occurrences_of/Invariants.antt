@@ -1,16 +1,11 @@
--- What was found and what the rows from `i` on have come to all. Assumes nothing.
-use Prim.Native.Nat.{◌+◌, ◌-◌, ◌≤◌}
+-- What was found and what the rows that are left have come to all. Assumes nothing.
+use Prim.Native.Nat.{◌+◌}
 use mathlib.Core.Path.{◌≡◌}
-use mathlib.Core.List.{zip_with}
-use lib.ListN.{drop}
-use Rattle.hgn.specs.Rows.{row, values_tagged}
+use Rattle.hgn.specs.Rows.{values_tagged}
+use Rattle.sheet_index.specs.Index.{rows_in, rows_left}
 use Rattle.network.specs.Pending.{occurrences}
 use Rattle.network.proofs.listed.occurrences_of.Given as goal
 
-abbrev pub invariant-loop-i : goal.invariant-loop-i
-invariant-loop-i l =
-    (occurrences l.number (values_tagged 11 (zip_with row l.tags l.values)) ≡ l.found + occurrences l.number (values_tagged 11 (drop l.i (zip_with row l.tags l.values))))
-    × (l.found ≤ l.i)
-
-abbrev pub decreases-loop-i : goal.decreases-loop-i
-decreases-loop-i l = l.n - l.i
+abbrev pub invariant-loop-tag : goal.invariant-loop-tag
+invariant-loop-tag l =
+    occurrences l.number (values_tagged 11 (rows_in l.node)) ≡ l.found + occurrences l.number (values_tagged 11 (rows_left l.tag-iterator))
