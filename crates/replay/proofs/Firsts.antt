@@ -1,5 +1,5 @@
 -- The goals of a checked order, read along the table of its ends, as all that waits. Assumes nothing.
-use Prim.Native.Nat.{ℕ, ◌+◌, ◌<◌, ◌≤◌}
+use Prim.Native.Nat.{ℕ, ◌<◌, ◌≤◌}
 use native.Mathlib.Omega.{arith}
 use mathlib.Core.Path.{◌≡◌, refl, sym, ap, ◌∙◌}
 use mathlib.Core.List.{List, map, map-map}
@@ -13,7 +13,7 @@ use Rattle.hgn.specs.Rows.{Row, row, has}
 use Rattle.hgn.specs.Tag as Tag
 use Rattle.hgn.specs.Meaning.{node_of, nodes_of, order_of}
 use Rattle.hgn.specs.Network as Network
-use Rattle.hgn.specs.Network.{enter, goals_of, goal_at}
+use Rattle.hgn.specs.Network.{enter, goals_of}
 use Rattle.hgn.specs.Questions.{passed}
 use Rattle.hgn.specs.Order as Order
 use Rattle.hgn.specs.Order.{order_rows}
@@ -24,12 +24,12 @@ use Rattle.sheet_check.proofs.Lookup.{rows_at}
 use Rattle.sheet_index.proofs.Spans.{by_test, ends_length, NodesFrom}
 use Rattle.sheet_check.proofs.Orders.{order_fits, order_length}
 use Rattle.sheet_index.proofs.Indexed.{order_whole, order_nodes_here, order_nodes_later, order_until, order_columns}
-use Rattle.network.specs.Entries.{order_origin, waiting_of}
+use Rattle.std.specs.Prelude.{None}
+use Rattle.network.specs.Entries.{waiting_of}
 use Rattle.sheet_index.specs.Tables.{Bounds, Walk, node_at}
-use Rattle.network.specs.Entering.{entries_from}
 use Rattle.replay.specs.OrderTable.{OrderIndexed, first_row}
-use Rattle.network.specs.Goals.{list_in, counts_in, node_entries, Begun}
-use Rattle.network.specs.declared.goals.Entering.{Entering}
+use Rattle.network.specs.Goals.{list_in, counts_in, Begun}
+use Rattle.network.specs.declared.goals.Goals.{Goals}
 use Rattle.network.proofs.WaitingGoals.{list_length, list_at, count_at}
 use Rattle.network.proofs.PendingCounts.{counted_first}
 use Rattle.replay.specs.Running.{FirstGoals}
@@ -104,31 +104,20 @@ module _ {shop order table : List ℕ} (ix : OrderIndexed shop order table) wher
       rw (z, t, end_at 0 (omega (arith, long))) (walked (get_or (ends 0 rows) 0 0) l.1 l.0)))
 
   -- All that waits, with their counts.
-  pub goals_begun : (first : ℕ) (a : GoalsAt shop order table first) (network : Entering) (ws : List ℕ) → network.origin ≡ order_origin
-      → Begun shop order network a.bs ws → FirstGoals shop order ws
+  pub goals_begun : (first : ℕ) (a : GoalsAt shop order table first) (e : ℕ) (g : Goals) → Begun shop order None e a.bs g → FirstGoals shop order g
   unfolding goals_of
-  goals_begun first a network ws o b =
-      let e : node_entries network a.bs ≡ entries_from Of.Order order_origin network.method network.parent network.end.0 0 a.bs = rw o refl in
-      let list : list_in shop order ws ≡ goals_of (Order.order order) =
-      ap (map (waiting_of shop order)) (b.goals ∙ e)
-      ∙ order_enters shop order Of.Order network.end.0 a.bs network.method network.parent 0 ∙ ap (enter Network.order none 0) a.nodes in
+  goals_begun first a e g b =
+      let list : list_in shop order g ≡ goals_of (Order.order order) =
+      ap (map (waiting_of shop order)) b.goals ∙ order_enters shop order e a.bs 0 ∙ ap (enter Network.order none 0) a.nodes in
       record {
         valid = record {
-          within = b.within;
           counted =
-              counted_first shop order ix.checked list (sym (list_length shop order ws)) {c = counts_in ws} {r = counts_in ws} (record {
-                size = refl;
-                filled = λ k h.
-                    let n = list_length shop order ws in
-                    let z : 0 + k ≡ k = omega arith in
-                    ap (λ (j : ℕ). get_or (counts_in ws) j 0) z
-                    ∙ count_at ws k (omega (arith, b.within.few))
-                    ∙ b.counts k (omega (arith, b.count))
-                    ∙ ap (λ (x : Network.Waiting). length x.after) (sym (list_at shop order ws k h))
-                    ∙ ap (λ (j : ℕ). length (goal_at (list_in shop order ws) j).after) (sym z);
-                before = λ k h. absurd (omega arith);
-                behind = λ k h. refl;
-              });
+              counted_first shop order ix.checked list (counts_in g)
+              (λ k h.
+              let n = list_length shop order g in
+              count_at g k
+              ∙ b.counts k (omega (arith, b.count))
+              ∙ ap (λ (x : Network.Waiting). length x.after) (sym (list_at shop order g k (omega arith))));
         };
         list = list;
       }

@@ -13,6 +13,7 @@ use Rattle.hgn.specs.Replay.{rules_of}
 use Rattle.step.specs.declared.moves.Move.{Move}
 use Rattle.step.specs.declared.moves.Move.TheVariants.{Release, Act, Use}
 use Rattle.step.specs.Taking.{problem_with, Going, TakenBy}
+use Rattle.network.specs.declared.goals.Goals.{Goals}
 use Rattle.network.proofs.Reaching.{reached_first}
 use Rattle.replay.specs.Running.{FirstGoals, TotalWith}
 use Rattle.replay.specs.declared.run.Totals.{Totals}
@@ -32,9 +33,9 @@ module _ (shop : List ℕ) {m : Move} where
   total_method e t = rw e refl
 
 -- A run in progress goes on with a step that is taken.
-module _ (shop order trace : List ℕ) (fits : 1 + (step_count trace + step_count trace) ≤ length trace) (P₀ : Problem) (i : ℕ) (s : State) (ws : List ℕ) (t : Totals)
+module _ (shop order trace : List ℕ) (fits : 1 + (step_count trace + step_count trace) ≤ length trace) (P₀ : Problem) (i : ℕ) (s : State) (ws : Goals) (t : Totals)
     (going : Running (rules_of shop) (steps_of trace) P₀ i (problem_with shop order s ws) t.count t.cost) (h : i < step_count trace)
-    (mv p : ℕ) (mv-is : mv ≡ get_or trace (1 + i) 0) (p-is : p ≡ get_or trace (1 + step_count trace + i) 0) (s' : State) (ws' : List ℕ) where
+    (mv p : ℕ) (mv-is : mv ≡ get_or trace (1 + i) 0) (p-is : p ≡ get_or trace (1 + step_count trace + i) 0) (s' : State) (ws' : Goals) where
   abbrev P : Problem
   P = problem_with shop order s ws
 
@@ -54,5 +55,5 @@ module _ (shop order trace : List ℕ) (fits : 1 + (step_count trace + step_coun
   run_goes (Use k) a e = subst Goes (sym e) (run_on shop trace fits P₀ i P t.count t.cost going h mv p mv-is p-is _ P' a.comes refl)
 
 -- The first step is 0, from any state.
-pub going_first : {shop order : List ℕ} (s : State) {ws : List ℕ} → FirstGoals shop order ws → Going shop order 0 s ws
+pub going_first : {shop order : List ℕ} (s : State) {ws : Goals} → FirstGoals shop order ws → Going shop order 0 s ws
 going_first s f = record { valid = f.valid; reached = reached_first s f.list }

@@ -1,5 +1,5 @@
 -- The replay's answer, as the definitions have it. Document 01, "Questions"; document 02, Req 01.
-use Rattle.std.specs.Prelude.{ℕ, false, cond, ◌&&◌, List, [], ◌∷◌, eqb, leb, ltb}
+use Rattle.std.specs.Prelude.{ℕ, false, cond, ◌&&◌, List, [], ◌∷◌, Result, Ok, Err, eqb, leb, ltb}
 use Rattle.hgn.specs.Questions.{no_refusal, ◌asks◌, placed, failed_at}
 use Rattle.hgn.specs.State.{State, no_atom}
 use Rattle.hgn.specs.Run.{Problem, run}
@@ -7,12 +7,19 @@ use Rattle.hgn.specs.Shop.{domain}
 use Rattle.hgn.specs.Trace.{step_count, steps_of}
 use Rattle.hgn.specs.Replay as Replay
 use Rattle.hgn.specs.Replay.{rules_of, Replayed, refusal, reported}
-use Rattle.sheet_rows.specs.Refusals.{refusal_of}
-use Rattle.replay.specs.declared.answer.Answer.{Answer}
+use Rattle.step.specs.Failures.{failure_of}
+use Rattle.step.specs.declared.failure.Failure.{Failure}
+use Rattle.replay.specs.declared.answer.Accepted.{Accepted}
 
+-- What the call answers.
+abbrev pub Answer : Type 0
+Answer = Result Accepted Failure
+
+-- Accepted, number 0 at the number of steps, and no atom; refused, what the failure tells, the empty state and both counts 0.
 abbrev pub answer_of : Answer → Replay.Answer
-answer_of r =
-    record { refusal = refusal_of r.refusal; state = r.state.atoms; count = r.count; cost = r.cost; atom = r.atom }
+answer_of (Ok a) =
+    record { refusal = placed a.steps no_refusal; state = a.state.atoms; count = a.count; cost = a.cost; atom = no_atom }
+answer_of (Err f) = (refusal [] (failure_of f)).answer
 
 -- The answer and the room at exit.
 abbrev pub replayed_of : Answer → List ℕ → Replayed

@@ -5,8 +5,7 @@ use Rattle.std.specs.Prelude.{ℕ, ◌≡◌, List}
 use Rattle.hgn.specs.Replay.{replay}
 use Rattle.hgn.specs.Demands.{InputsPass, ReplayAnswers, IsDefinition1, ReplayCall, NamesUnmet, TellsFirstUnmet}
 use Rattle.hgn.specs.Demands as Demands
-use Rattle.replay.specs.Answers.{replayed_of}
-use Rattle.replay.specs.declared.answer.Answer.{Answer}
+use Rattle.replay.specs.Answers.{Answer, replayed_of}
 
 abbrev pub Replays : List ℕ → List ℕ → List ℕ → List ℕ → Answer → List ℕ → Type 0
 Replays shop sheet trace room r exit = replayed_of r exit ≡ replay shop sheet trace room

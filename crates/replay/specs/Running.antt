@@ -7,6 +7,7 @@ use Rattle.hgn.specs.Shop.{domain}
 use Rattle.hgn.specs.Order as OrderSheet
 use Rattle.sheet_index.specs.Tables.{Indexed}
 use Rattle.network.specs.Goals.{list_in}
+use Rattle.network.specs.declared.goals.Goals.{Goals}
 use Rattle.step.specs.Taking.{ValidGoals}
 use Rattle.step.specs.declared.moves.Move.{Move}
 use Rattle.step.specs.declared.moves.Move.TheVariants.{Release, Act, Use}
@@ -14,9 +15,9 @@ use Rattle.step.specs.declared.problem.Problem.{Problem}
 use Rattle.replay.specs.declared.run.Totals.{Totals}
 
 -- The order's goals are all that waits.
-pub record FirstGoals (shop order ws : List ℕ) : Type 0 where
-  pub valid : ValidGoals shop order ws
-  pub list : list_in shop order ws ≡ goals_of (OrderSheet.order order)
+pub record FirstGoals (shop order : List ℕ) (g : Goals) : Type 0 where
+  pub valid : ValidGoals shop order g
+  pub list : list_in shop order g ≡ goals_of (OrderSheet.order order)
 
 -- The first record: the atoms true at the start, and the order's goals; and the shop's table beside it.
 pub record Prepared (shop order table : List ℕ) (b : Problem) : Type 0 where

@@ -9,7 +9,7 @@ ghost use Rattle.hgn.specs.Order as OrderSheet;
 ghost use Rattle.hgn.specs.Replay as Replay;
 ghost use Rattle.replay.specs.Answers.{answer_of, replayed_of, run_answer};
 
-use crate::answer::Answer;
+use crate::answer::Accepted;
 use crate::{first, plan, run};
 use network::goals::Goals;
 use sheet_check::check;
@@ -17,6 +17,7 @@ use sheet_check::check::Trace;
 use sheet_check::rows::word;
 use sheet_check::sizes::{ShopSizes, TraceSizes};
 use sheet_index::index::Tables;
+use sheet_rows::refusal::Question;
 use step::failure::Failure;
 
 // The moves of a trace.
@@ -29,19 +30,24 @@ fn moves_of(trace: &[u16]) -> &[u16]
 }
 
 // The run of a trace's steps, on sheets that passed.
-fn run_indexed<'a>(shop: &'a [u16], order: &'a [u16], trace: &[u16], tables: &mut [u16]) -> Answer
+fn run_indexed(
+    shop: &[u16],
+    order: &[u16],
+    trace: &[u16],
+    tables: &mut [u16],
+) -> Result<Accepted, Failure>
     requires trace_value { check_trace shop.now order.now trace.now ≡ passed }
     requires most_methods_in_bounds { most_rows + suc (most_actions + most_methods) ≤ length tables.old }
     ensures { answer_of result ≡ run_answer shop.now trace.now (problem_of (OrderSheet.order order.now)) }
 {
     let mut goals = Goals::empty();
-    first::begun(shop, order, tables, &mut goals.words);
+    first::begun(shop, order, tables, &mut goals);
     let mut atoms = first::start(shop, order);
-    run::run(shop, order, trace, tables, &mut atoms, &mut goals.words)
+    run::run(shop, order, trace, tables, &mut atoms, &mut goals)
 }
 
 // The run of sheets that passed. The tables of their index have the largest sheet's size, since no size is known before.
-fn run_checked<'a>(shop: &'a [u16], order: &'a [u16], trace: &[u16]) -> Answer
+fn run_checked(shop: &[u16], order: &[u16], trace: &[u16]) -> Result<Accepted, Failure>
     requires { check_trace shop.now order.now trace.now ≡ passed }
     ensures { answer_of result ≡ run_answer shop.now trace.now (problem_of (OrderSheet.order order.now)) }
 {
@@ -50,20 +56,19 @@ fn run_checked<'a>(shop: &'a [u16], order: &'a [u16], trace: &[u16]) -> Answer
 }
 
 // Questions 1 to 33. Accepted, the plan stands in the first words of the room.
-pub fn replay<'a>(shop: &'a [u16], order: &'a [u16], trace: &[u16], plan: &mut [u16]) -> Answer
+pub fn replay(
+    shop: &[u16],
+    order: &[u16],
+    trace: &[u16],
+    plan: &mut [u16],
+) -> Result<Accepted, Failure>
     ensures { replayed_of result plan.new ≡ Replay.replay shop.now order.now trace.now plan.old }
 {
-    let refusal = check::check_trace(shop, order, trace);
-    if refusal.number != 0 {
-        return Answer::refused(Failure::of(refusal));
-    }
+    check::check_trace(shop, order, trace)?;
     if plan.len() < word(trace, TraceSizes::STEPS) as usize {
-        return Answer::refused(Failure::by(24));
+        return Err(Failure::by(Question::PlanRoom));
     }
-    let answer = run_checked(shop, order, trace);
-    if answer.refusal.number != 0 {
-        return answer;
-    }
+    let accepted = run_checked(shop, order, trace)?;
     plan::write_plan(moves_of(trace), word(shop, ShopSizes::ACTIONS), plan);
-    answer
+    Ok(accepted)
 }

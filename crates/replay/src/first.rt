@@ -8,12 +8,11 @@ ghost use Rattle.hgn.specs.Order as OrderSheet;
 ghost use Rattle.hgn.specs.Questions.{passed};
 ghost use Rattle.sheet_index.specs.Tables.{Indexed};
 ghost use Rattle.sheet_index.specs.declared.index.Span.{Span};
-ghost use Rattle.network.specs.Goals.{goals_words};
 ghost use Rattle.replay.specs.OrderTable.{OrderIndexed, first_row};
 ghost use Rattle.replay.specs.Running.{FirstGoals, Prepared};
 
-use network::goals::{Entering, Goals, begin};
-use network::waiting::Name;
+use network::entering::Entering;
+use network::goals::Goals;
 use sheet_check::check::{Order, Shop};
 use sheet_check::rows::{Row, word};
 use sheet_check::sizes::{OrderSizes, ShopSizes};
@@ -30,35 +29,32 @@ use step::problem::Problem;
 fn first_node(order: &[u16], tables: &[u16]) -> Row
     ensures { result.0 ≡ first_row order.now tables.now }
 {
-    if word(order, OrderSizes::ROWS) == 0 {
-        return Row(0);
-    }
-    if word(order, Order::SIZES) == tag::NODE {
+    if word(order, OrderSizes::ROWS) == 0 || word(order, Order::SIZES) == tag::NODE {
         return Row(0);
     }
     Row(word(tables, 0))
 }
 
 // The atoms true at the start.
-pub fn start<'a>(shop: &'a [u16], order: &'a [u16]) -> [bool; Shop::MOST_ATOMS as usize]
+pub fn start(shop: &[u16], order: &[u16]) -> [bool; Shop::MOST_ATOMS as usize]
     requires { OrderSheet.check_order shop.now order.now ≡ passed }
     ensures { result ≡ start_of (OrderSheet.order order.now) }
 {
-    let end = Row(word(order, OrderSizes::ROWS));
     let rows = Span {
         sheet: Sheet::Order,
         from: Row(0),
-        to: end,
+        to: Row(word(order, OrderSizes::ROWS)),
     };
-    let tags = index::tags_of(rows, shop, order);
-    let values = index::values_of(rows, shop, order);
-    let empty = State::empty();
-    let none = empty.atoms;
-    atoms::assigned(none, tags, values, tag::TRUE_AT_START, true)
+    atoms::assigned(
+        State::empty().atoms,
+        rows.rows(shop, order),
+        tag::TRUE_AT_START,
+        true,
+    )
 }
 
 // The table of the order, for its goals.
-fn index_order<'a>(shop: &'a [u16], order: &'a [u16], tables: &mut [u16])
+fn index_order(shop: &[u16], order: &[u16], tables: &mut [u16])
     requires { (OrderSheet.check_order shop.now order.now ≡ passed) × (most_rows + suc (most_actions + most_methods) ≤ length tables.old) }
     ensures { OrderIndexed shop.now order.now tables.new × (length tables.new ≡ length tables.old) }
 {
@@ -67,7 +63,7 @@ fn index_order<'a>(shop: &'a [u16], order: &'a [u16], tables: &mut [u16])
 }
 
 // The table of the shop.
-fn index_shop<'a>(shop: &'a [u16], order: &'a [u16], tables: &mut [u16])
+fn index_shop(shop: &[u16], order: &[u16], tables: &mut [u16])
     requires { (OrderSheet.check_order shop.now order.now ≡ passed) × (most_rows + suc (most_actions + most_methods) ≤ length tables.old) }
     ensures { Indexed shop.now order.now tables.new }
 {
@@ -78,40 +74,24 @@ fn index_shop<'a>(shop: &'a [u16], order: &'a [u16], tables: &mut [u16])
 }
 
 // The order's goals, in listed order, are all that waits.
-fn write_goals<'a>(
-    shop: &'a [u16],
-    order: &'a [u16],
-    tables: &[u16],
-    goals: &mut [u16; Goals::WORDS],
-)
-    requires { OrderIndexed shop.now order.now tables.now × (length goals.old ≡ goals_words) }
+fn write_goals(shop: &[u16], order: &[u16], tables: &[u16], goals: &mut Goals)
+    requires { OrderIndexed shop.now order.now tables.now }
     ensures { FirstGoals shop.now order.now goals.new }
 {
-    let first = first_node(order, tables);
     let sizes = OrderSizes::of(order);
     let network = Entering {
-        origin: Name::ORDER,
-        method: Name::ORDER,
-        parent: Name {
-            origin: Name::ORDER,
-            number: 0,
-        },
-        first: first,
+        source: None,
+        first: first_node(order, tables),
         end: Row(sizes.rows),
         count: sizes.goals,
     };
-    begin(shop, order, tables, goals, network);
+    goals.begin(shop, order, tables, network);
 }
 
 // The order's goals are all that waits, and the table is filled: first the order's, for its goals, then the shop's.
-pub fn begun<'a>(
-    shop: &'a [u16],
-    order: &'a [u16],
-    tables: &mut [u16],
-    goals: &mut [u16; Goals::WORDS],
-)
+pub fn begun(shop: &[u16], order: &[u16], tables: &mut [u16], goals: &mut Goals)
     requires order_value { OrderSheet.check_order shop.now order.now ≡ passed }
-    requires most_methods_in_bounds { (most_rows + suc (most_actions + most_methods) ≤ length tables.old) × (length goals.old ≡ goals_words) }
+    requires most_methods_in_bounds { most_rows + suc (most_actions + most_methods) ≤ length tables.old }
     ensures { Indexed shop.now order.now tables.new × FirstGoals shop.now order.now goals.new }
 {
     index_order(shop, order, tables);
@@ -120,16 +100,15 @@ pub fn begun<'a>(
 }
 
 // The first record, with the shop's table filled.
-pub fn prepared<'a>(shop: &'a [u16], order: &'a [u16], tables: &mut [u16]) -> Problem
+pub fn prepared(shop: &[u16], order: &[u16], tables: &mut [u16]) -> Problem
     requires order_value { OrderSheet.check_order shop.now order.now ≡ passed }
     requires most_methods_in_bounds { most_rows + suc (most_actions + most_methods) ≤ length tables.old }
     ensures { Prepared shop.now order.now tables.new result }
 {
     let mut goals = Goals::empty();
-    begun(shop, order, tables, &mut goals.words);
-    let atoms = start(shop, order);
+    begun(shop, order, tables, &mut goals);
     Problem {
-        atoms: atoms,
-        waiting: goals.words,
+        atoms: start(shop, order),
+        waiting: goals,
     }
 }

@@ -8,16 +8,10 @@ pub fn write_plan(moves: &[u16], actions: u16, room: &mut [u16])
     ensures { room.new ≡ action_moves actions moves.now ++ drop (length (action_moves actions moves.now)) room.old }
 {
     let mut written = 0;
-    let mut i = 0;
-    while i < moves.len() {
-        let at = i;
-        i += 1;
-        let number = moves[at];
-        if 0 < number {
-            if number <= actions {
-                room[written] = number;
-                written += 1;
-            }
+    for &number in moves {
+        if 0 < number && number <= actions {
+            room[written] = number;
+            written += 1;
         }
     }
 }

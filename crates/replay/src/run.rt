@@ -9,20 +9,17 @@ ghost use Rattle.replay.specs.Answers.{answer_of, run_answer, end_answer};
 ghost use Rattle.step.specs.Taking.{problem_with};
 ghost use Rattle.replay.specs.Running.{FirstGoals, TotalWith};
 
-use crate::answer::Answer;
-use network::goals;
+use crate::answer::Accepted;
 use network::goals::Goals;
 use network::waiting::Place;
 use sheet_check::check::{Shop, Trace};
 use sheet_check::rows::word;
 use sheet_check::sizes::TraceSizes;
 use sheet_index::operators;
-use sheet_rows::refusal::Refusal;
-use state::atoms;
+use sheet_rows::refusal::Question;
 use state::atoms::State;
 use step::failure::Failure;
 use step::moves::{Move, Step};
-use step::questions::Decision;
 use step::taking;
 
 // How many actions were taken, and the sum of their costs.
@@ -40,55 +37,46 @@ impl Totals {
         ensures { TotalWith shop.now known self result }
     {
         match known {
-            Move::Release => self,
             Move::Act(action) => {
                 let price = operators::action_cost(shop, tables, action);
                 Totals {
                     count: self.count + 1,
-                    cost: self.cost + price as u32,
+                    cost: self.cost + u32::from(price),
                 }
             }
-            Move::Use(method) => self,
+            Move::Release | Move::Use(_) => self,
         }
     }
 }
 
 // The steps of a trace from a state on, with the order's goals waiting, taken where both stand. What they leave there is left free.
-pub fn run<'a>(
-    shop: &'a [u16],
-    order: &'a [u16],
+pub fn run(
+    shop: &[u16],
+    order: &[u16],
     trace: &[u16],
     tables: &[u16],
     atoms: &mut [bool; Shop::MOST_ATOMS as usize],
-    waiting: &mut [u16; Goals::WORDS],
-) -> Answer
+    waiting: &mut Goals,
+) -> Result<Accepted, Failure>
     requires indexed { Indexed shop.now order.now tables.now × FirstGoals shop.now order.now waiting.old }
     requires trace_in_bounds { (1 + (step_count trace.now + step_count trace.now) ≤ length trace.now) × (step_count trace.now ≤ most_steps) }
     ensures { answer_of result ≡ run_answer shop.now trace.now (problem_with shop.now order.now atoms.old waiting.old) }
 {
     let sizes = TraceSizes::of(trace);
-    let steps = sizes.steps as usize;
     let mut totals = Totals { count: 0, cost: 0 };
-    let mut i: usize = 0;
-    while i < steps {
-        let number = i as u16;
+    for number in 0..sizes.steps {
+        let at = Trace::SIZES + number as usize;
         let step = Step {
-            number: number,
-            mv: word(trace, Trace::SIZES + i),
-            place: Place(word(trace, Trace::SIZES + steps + i)),
+            number,
+            mv: word(trace, at),
+            place: Place(word(trace, at + sizes.steps as usize)),
         };
-        i += 1;
-        let decision = taking::take(shop, order, tables, atoms, waiting, step, Goals::MOST);
-        match decision {
-            Decision::Refused(failure) => {
-                return Answer::refused(failure.at(number));
-            }
-            Decision::Allowed(known) => {
-                totals = totals.with(shop, tables, known);
-            }
+        match taking::take(shop, order, tables, atoms, waiting, step, Goals::MOST) {
+            Ok(known) => totals = totals.with(shop, tables, known),
+            Err(failure) => return Err(failure.at(number)),
         }
     }
-    ended(atoms, goals::count_of(waiting), sizes.steps, totals)
+    ended(atoms, waiting.len(), sizes.steps, totals)
 }
 
 // After the last step: nothing waiting? 33.
@@ -97,18 +85,16 @@ fn ended(
     waiting: u16,
     steps: u16,
     totals: Totals,
-) -> Answer
+) -> Result<Accepted, Failure>
     ensures { answer_of result ≡ end_answer steps atoms.now waiting totals.count totals.cost }
 {
-    if waiting == 0 {
-        let last = *atoms;
-        return Answer {
-            refusal: Refusal::none().at(steps),
-            state: State { atoms: last },
-            count: totals.count,
-            cost: totals.cost,
-            atom: atoms::NO_ATOM,
-        };
+    if waiting != 0 {
+        return Err(Failure::by(Question::GoalsLeft).at(steps));
     }
-    Answer::refused(Failure::by(33).at(steps))
+    Ok(Accepted {
+        steps,
+        state: State { atoms: *atoms },
+        count: totals.count,
+        cost: totals.cost,
+    })
 }

@@ -2,7 +2,7 @@
 ghost use Rattle.hgn.specs.Rows.{rows_of};
 ghost use Rattle.sheet_join.specs.Joinings.{Holds, FirstGoal, PassWithOne, IsJoining};
 
-use sheet_check::rows::{Layout, Row};
+use sheet_check::rows::Layout;
 use sheet_check::sizes::OrderSizes;
 use sheet_rows::tag;
 
@@ -26,14 +26,10 @@ fn first_goal(order: &[u16], layout: Layout) -> usize
     requires { Holds layout order.now }
     ensures { FirstGoal (rows_of layout.sizes layout.rows order.now) result }
 {
-    let mut i = 0;
-    while i < layout.rows {
-        if layout.tag(order, Row(i as u16)) == tag::NODE {
-            return i;
-        }
-        i += 1;
-    }
-    i
+    let tags = &order[layout.sizes..layout.sizes + layout.rows];
+    tags.iter()
+        .position(|&tag| tag == tag::NODE)
+        .unwrap_or(layout.rows)
 }
 
 impl Joining {
@@ -51,7 +47,7 @@ impl Joining {
             atoms: one.atoms,
             before: one.goals,
             goals: one.goals + two.goals,
-            from: from,
+            from,
             rows: one.rows as usize + kept + new,
         }
     }

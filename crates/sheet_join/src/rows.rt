@@ -21,11 +21,9 @@ fn put_first(room: &mut [u16], into: Layout, first: &[u16], from: Layout)
     requires { Holds into room.old × Holds from first.now × (from.rows ≤ into.rows) }
     ensures { room.new ≡ put_rows into.sizes into.rows 0 (rows_of from.sizes from.rows first.now) room.old }
 {
-    let mut i = 0;
-    while i < from.rows {
+    for i in 0..from.rows {
         let row = Row(i as u16);
         into.put(room, row, from.tag(first, row), from.value(first, row));
-        i += 1;
     }
 }
 
@@ -34,10 +32,8 @@ fn put_afters(room: &mut [u16], into: Layout, at: usize, before: u16)
     requires { Holds into room.old × (at + before ≤ into.rows) }
     ensures { room.new ≡ put_rows into.sizes into.rows at (map (row Tag.after) (range 0 before)) room.old }
 {
-    let mut goal = 0;
-    while goal < before {
+    for goal in 0..before {
         into.put(room, Row((at + goal as usize) as u16), tag::AFTER, goal);
-        goal += 1;
     }
 }
 
@@ -64,22 +60,13 @@ fn put_second(room: &mut [u16], into: Layout, second: &[u16], at: usize, joining
     requires { SecondFits into second.now at joining room.old }
     ensures { room.new ≡ put_rows into.sizes into.rows at (flat_map (raised_row joining.before) (drop joining.from (order_rows second.now))) room.old }
 {
-    let sizes = OrderSizes::of(second);
-    let from = sizes.layout();
-    let before = joining.before;
+    let from = OrderSizes::of(second).layout();
     let mut next = at;
-    let mut i = joining.from;
-    while i < from.rows {
+    for i in joining.from..from.rows {
         let row = Row(i as u16);
-        next = put_raised(
-            room,
-            into,
-            next,
-            before,
-            from.tag(second, row),
-            from.value(second, row),
-        );
-        i += 1;
+        let tag = from.tag(second, row);
+        let value = from.value(second, row);
+        next = put_raised(room, into, next, joining.before, tag, value);
     }
 }
 

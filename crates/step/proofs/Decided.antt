@@ -4,11 +4,13 @@ use native.Mathlib.Omega.{arith}
 use mathlib.Core.Path.{◌≡◌, refl, sym, ap, subst, ◌∙◌}
 use mathlib.Core.Bool.{Bool, true, false, cond}
 use mathlib.Core.List.{List}
-use lib.Dec.{leb}
+use lib.Dec.{eqb, leb}
 use lib.ListN.{length}
 use borrow.Author.Tests.{ne_eqb}
+use Rattle.std.specs.Prelude.{Option, Some, None, Result, Ok, Err}
 use Rattle.hgn.specs.Questions as Questions
 use Rattle.hgn.specs.Questions.{◌asks◌, ◌naming◌, passed, first_no}
+use Rattle.hgn.specs.Rows.{Row}
 use Rattle.hgn.specs.Tag as Tag
 use Rattle.hgn.specs.Meaning.{Literal, Formula, literals, node_of, goal_of, network_of}
 use Rattle.hgn.specs.State.{State, all_hold, formula_holds, unmet, unmet_goal, relevant}
@@ -18,35 +20,31 @@ use Rattle.hgn.specs.Run as Run
 use Rattle.hgn.specs.Run.{Problem, Rules, strict, refused, move_of, method_at, own_questions}
 use Rattle.hgn.specs.Shop.{domain, action_count, method_count}
 use Rattle.hgn.proofs.Questions.FirstNo.{Numbers, refused_number}
+use Rattle.sheet_rows.specs.Refusals.{number_of}
 use Rattle.sheet_rows.specs.declared.position.Sheet.TheVariants as Of
 use Rattle.sheet_rows.specs.declared.position.Atom.{Atom}
-use Rattle.state.specs.Tests.{holds_in, unmet_in, Tested, GoalTested}
-use Rattle.state.specs.declared.literals.Test.{Test}
-use Rattle.state.specs.declared.literals.Test.TheVariants.{Holds, Fails}
-use Rattle.sheet_index.specs.declared.index.Part.{Part}
+use Rattle.state.specs.Tests.{Tested, GoalTested}
+use Rattle.sheet_index.specs.declared.rows.Rows.{Rows}
 use Rattle.sheet_index.specs.declared.index.Span.{Span}
 use Rattle.sheet_index.specs.Index.{span_of, span_rows}
 use Rattle.network.specs.Entries.{waiting_of}
 use Rattle.sheet_index.specs.Tables.{Indexed, ActionIn, Bounds, Walk, NodesCounted, MethodAt}
 use Rattle.sheet_index.specs.declared.operators.Nodes.{Nodes}
 use Rattle.sheet_index.specs.declared.operators.MethodRows.{MethodRows}
-use Rattle.step.specs.Moves.{Known, known_of, read_of, move_read}
-use Rattle.step.specs.Failures.{failure_of, told}
+use Rattle.step.specs.Moves.{Known, known_of, move_read}
+use Rattle.step.specs.Failures.{failure_of}
 use Rattle.step.specs.declared.failure.Failure.{Failure}
 use Rattle.step.specs.Deciding.{Faces, Answers, ActionAnswers, with_question27, StatusIn, Decides}
-use Rattle.network.specs.declared.goals.GoalStatus.{GoalStatus}
+use Rattle.network.specs.declared.waiting.Waiting.{Waiting}
 use Rattle.step.specs.declared.moves.Move.{Move}
 use Rattle.step.specs.declared.moves.Move.TheVariants.{Release, Act, Use}
-use Rattle.step.specs.declared.moves.Read.{Read}
-use Rattle.step.specs.declared.moves.Read.TheVariants.{Readable, Unreadable}
 use Rattle.step.specs.declared.questions.Load.{Load}
-use Rattle.step.specs.declared.questions.Decision.TheVariants.{Refused, Allowed}
 use Rattle.sheet_index.proofs.Tables.{shop_passes}
 use Rattle.sheet_index.proofs.OperatorRows.{method_size}
 use Rattle.step.proofs.Bodies.{read_by_counts, step_25, step_26, step_27, step_28, own_refuses, own_takes, own_room, use_30, use_31, use_32, use_passed}
 use Rattle.step.proofs.Actions.{known_read}
 
--- The number of a move's own refusal is neither 0 nor 28.
+-- The number of a move's own refusal is not 28.
 module _ (r : Rules) (n p : ℕ) (P : Problem) where
   own_numbers : (m : Move) → Numbers (λ k a. 28 < k) (own_questions r n P p (known_of m))
   unfolding own_questions
@@ -57,139 +55,131 @@ module _ (r : Rules) (n p : ℕ) (P : Problem) where
   own_above : (m : Move) (q : Questions.Failure) → first_no (own_questions r n P p (known_of m)) ≡ Questions.refused q → 28 < q.refusal.number
   own_above m q e = refused_number (λ k a. 28 < k) (own_questions r n P p (known_of m)) (own_numbers m) q e
 
-  -- What was told of them: 0 where they passed, and else the refusal.
-  pub own_told : (m : Move) (a : Questions.Failure) → a ≡ told (first_no (own_questions r n P p (known_of m)))
-      → (a.refusal.number ≡ 0 → first_no (own_questions r n P p (known_of m)) ≡ passed)
-      × ((a.refusal.number ≡ 0 → ⊥) → (first_no (own_questions r n P p (known_of m)) ≡ Questions.refused a) × (28 < a.refusal.number))
-  own_told m a e = go (first_no (own_questions r n P p (known_of m))) refl e
-    where
-      go : (o : Questions.Verdict) → first_no (own_questions r n P p (known_of m)) ≡ o → a ≡ told o
-          → (a.refusal.number ≡ 0 → first_no (own_questions r n P p (known_of m)) ≡ passed)
-          × ((a.refusal.number ≡ 0 → ⊥) → (first_no (own_questions r n P p (known_of m)) ≡ Questions.refused a) × (28 < a.refusal.number))
-      go passed f g = (λ z. f, λ z. absurd (z (ap (λ (k : Questions.Failure). k.refusal.number) g)))
-      go (Questions.refused q) f g =
-          let h = own_above m q f in
-          let s = ap (λ (k : Questions.Failure). k.refusal.number) g in
-          (λ z. absurd (omega arith), λ z. (f ∙ ap Questions.refused (sym g), omega arith))
-
 -- A move that was read is known.
 pub read_known : (shop : List ℕ) (move actions methods : ℕ) → actions ≡ action_count shop → methods ≡ method_count shop
-    → (reading : Read) → read_of reading ≡ move_read move actions methods → {m : Move} → reading ≡ Readable m → Known (action_count shop) (method_count shop) m
-read_known shop move actions methods a b reading reads {m} e = known_read move _ _ m (sym (ap read_of e) ∙ reads ∙ rw (a, b))
+    → (m : Move) → known_of m ≡ move_read move actions methods → Known (action_count shop) (method_count shop) m
+read_known shop move actions methods a b m reads = known_read move _ _ m (reads ∙ rw (a, b))
 
 -- What is decided of a step, question by question.
-module _ {shop order table : List ℕ} (ix : Indexed shop order table) (s : State) (load : Load) (move p : ℕ) (status : GoalStatus)
-    (P : Problem) (look : StatusIn shop order s load.count status P p) where
+module _ {shop order table : List ℕ} (ix : Indexed shop order table) (s : State) (load : Load) (move p : ℕ) (waiting : Option Waiting)
+    (P : Problem) (look : StatusIn shop order s load.count waiting P p) where
   abbrev rules : Rules
   rules = strict load.limit (domain shop)
 
-  pub decide_past : load.count ≤ p → (r : Failure) → failure_of r ≡ (25 asks false).failure → Decides load.limit shop P move p (Refused r)
-  decide_past h r e n = step_25 rules n P move p (omega (arith, look.size)) ∙ ap (λ (q : Questions.Failure). refused (with_question27 P.waiting q)) (sym e)
+  pub decide_past : waiting ≡ None → (q : Failure) → failure_of q ≡ (25 asks false).failure → Decides load.limit shop P move p (Err q)
+  decide_past h q e n = step_25 rules n P move p (omega (arith, look.size, look.none h)) ∙ ap (λ (q : Questions.Failure). refused (with_question27 P.waiting q)) (sym e)
 
-  module _ (h : p < load.count) {actions methods : ℕ} (a : actions ≡ action_count shop) (b : methods ≡ method_count shop)
-      (reading : Read) (reads : read_of reading ≡ move_read move actions methods) where
+  module _ {w : Waiting} (h : waiting ≡ Some w) {actions methods : ℕ} (a : actions ≡ action_count shop) (b : methods ≡ method_count shop) where
     inside : p < length P.waiting
-    inside = omega (arith, look.size)
+    inside = (look.some w h).inside
 
-    move_is : move_of (domain shop) move ≡ read_of reading
-    move_is = read_by_counts shop move (shop_passes ix) ∙ sym (reads ∙ rw (a, b))
+    move_is : move_of (domain shop) move ≡ move_read move actions methods
+    move_is = read_by_counts shop move (shop_passes ix) ∙ rw (a, b) refl
 
-    pub decide_unknown : reading ≡ Unreadable → (r : Failure) → failure_of r ≡ (26 asks false).failure → Decides load.limit shop P move p (Refused r)
-    decide_unknown e r z n =
-        step_26 rules n P move p inside (move_is ∙ ap read_of e) ∙ ap (λ (q : Questions.Failure). refused (with_question27 P.waiting q)) (sym z)
+    pub decide_unknown : Run.unknown ≡ move_read move actions methods → (q : Failure) → failure_of q ≡ (26 asks false).failure
+        → Decides load.limit shop P move p (Err q)
+    decide_unknown e q z n =
+        step_26 rules n P move p inside (move_is ∙ sym e) ∙ ap (λ (q : Questions.Failure). refused (with_question27 P.waiting q)) (sym z)
 
-    module _ {m : Move} (e : reading ≡ Readable m) where
-      goal_free : {v : Bool} → status.free ≡ v → free P.waiting (goal_at P.waiting p) ≡ v
-      goal_free q = sym (look.free_is h) ∙ q
+    module _ (m : Move) (reads : known_of m ≡ move_read move actions methods) where
+      goal_free : {v : Bool} → eqb w.pending 0 ≡ v → free P.waiting (goal_at P.waiting p) ≡ v
+      goal_free q = sym (look.some w h).free_is ∙ q
 
-      pub decide_held : status.free ≡ false → (r : Failure) → failure_of r ≡ (28 asks false).failure → Decides load.limit shop P move p (Refused r)
+      pub decide_held : eqb w.pending 0 ≡ false → (q : Failure) → failure_of q ≡ (28 asks false).failure → Decides load.limit shop P move p (Err q)
       decide_held f r z n = go (any_free P.waiting) refl ∙ ap (λ (q : Questions.Failure). refused (with_question27 P.waiting q)) (sym z)
         where
           go : (v : Bool) → any_free P.waiting ≡ v
               → Run.stepped rules n P (record { move = move; place = p }) ≡ refused (with_question27 P.waiting (28 asks false).failure)
-          go true q = step_28 rules n P move p inside m (move_is ∙ ap read_of e) q (goal_free f) ∙ rw q
-          go false q = step_27 rules n P move p inside m (move_is ∙ ap read_of e) q ∙ rw q
+          go true q = step_28 rules n P move p inside m (move_is ∙ sym reads) q (goal_free f) ∙ rw q
+          go false q = step_27 rules n P move p inside m (move_is ∙ sym reads) q ∙ rw q
 
-      module _ (f : status.free ≡ true) {r : Failure} (said : Answers shop order s status.goal.rows load (known_of m) r) where
-        faces : Faces shop order s status.goal.rows load.count P p
+      module _ (f : eqb w.pending 0 ≡ true) where
+        faces : Faces shop order s w.goal.rows load.count P p
         unfolding waiting_of
-        faces = record { state = look.state; formula = ap (λ (g : Network.Waiting). g.formula) (look.goal h); size = look.size }
+        faces = record { state = look.state; formula = ap (λ (g : Network.Waiting). g.formula) (look.some w h).goal; size = look.size }
 
-        pub decide_takes : load.limit ≤ most_waiting → r.refusal.number ≡ 0 → Decides load.limit shop P move p (Allowed m)
-        decide_takes few z = record {
+        pub decide_takes : load.limit ≤ most_waiting → (u : Unit {0}) → Answers shop order s w.goal.rows load (known_of m) (Ok u)
+            → Decides load.limit shop P move p (Ok m)
+        decide_takes few u said = record {
           inside = inside;
-          known = read_known shop move actions methods a b reading reads e;
-          fits = rw look.size (own_room shop order s status.goal.rows load.count load.limit 0 p P faces few m
-              ((own_told rules 0 p P m (failure_of r) (said 0 P p faces)).0 z));
-          comes = λ n.
-              own_takes rules n P move p inside m (move_is ∙ ap read_of e) (goal_free f)
-              ((own_told rules n p P m (failure_of r) (said n P p faces)).0 z);
+          known = read_known shop move actions methods a b m reads;
+          fits = rw look.size (own_room shop order s w.goal.rows load.count load.limit 0 p P faces few m (sym (said 0 P p faces)));
+          comes = λ n. own_takes rules n P move p inside m (move_is ∙ sym reads) (goal_free f) (sym (said n P p faces));
         }
 
-        pub decide_refuses : (r.refusal.number ≡ 0 → ⊥) → Decides load.limit shop P move p (Refused r)
-        decide_refuses z n =
-            let t = (own_told rules n p P m (failure_of r) (said n P p faces)).1 z in
-            own_refuses rules n P move p inside m (move_is ∙ ap read_of e) (goal_free f) (failure_of r) t.0
-            ∙ ap (λ (v : Bool). refused (cond v (cond (any_free P.waiting) (failure_of r) (27 asks false).failure) (failure_of r)))
-            (sym (ne_eqb r.refusal.number 28 (λ y. let o = t.1 in omega arith)))
+        pub decide_refuses : (q : Failure) → Answers shop order s w.goal.rows load (known_of m) (Err q)
+            → Decides load.limit shop P move p (Err q)
+        decide_refuses q said n =
+            let above : 28 < number_of q.refusal.question = own_above rules n p P m (failure_of q) (sym (said n P p faces)) in
+            own_refuses rules n P move p inside m (move_is ∙ sym reads) (goal_free f) (failure_of q) (sym (said n P p faces))
+            ∙ ap (λ (v : Bool). refused (cond v (cond (any_free P.waiting) (failure_of q) (27 asks false).failure) (failure_of q)))
+            (sym (ne_eqb (number_of q.refusal.question) 28 (λ y. omega arith)))
 
 -- A move's own questions, by its cases.
 module _ (shop order : List ℕ) (s : State) (goal : Span) (load : Load) where
-  pub of_release : {m : Move} {r : Failure} → m ≡ Release → Answers shop order s goal load Run.release r → Answers shop order s goal load (known_of m) r
-  of_release e said = rw e said
+  pub of_release : {m : Move} (r : Result (Unit {0}) Failure) → m ≡ Release → Answers shop order s goal load Run.release r → Answers shop order s goal load (known_of m) r
+  of_release r e said = rw e said
 
-  pub of_action : {m : Move} {k : ℕ} (rows : Part) {r : Failure} → m ≡ Act k → ActionIn shop k rows
+  pub of_action : {m : Move} {k : ℕ} (rows : Rows) (r : Result (Unit {0}) Failure) → m ≡ Act k → ActionIn shop k rows
       → ActionAnswers shop order s rows goal r → Answers shop order s goal load (known_of m) r
-  of_action {k = k} rows e is said = rw e (said k load is)
+  of_action {k = k} rows r e is said = rw e (said k load is)
 
-  pub of_method : {m : Move} {k : ℕ} {r : Failure} → m ≡ Use k → Answers shop order s goal load (Run.use_method k) r
+  pub of_method : {m : Move} {k : ℕ} (r : Result (Unit {0}) Failure) → m ≡ Use k → Answers shop order s goal load (Run.use_method k) r
       → Answers shop order s goal load (known_of m) r
-  of_method e said = rw e said
+  of_method r e said = rw e said
 
 -- What a test tells of needs and of a goal.
-module _ {s : State} {t : Test} where
-  pub needs_hold : {ls : List Literal} → Tested s ls t → t ≡ Holds → all_hold s ls ≡ true
-  needs_hold h e = sym h.holds ∙ ap holds_in e
+module _ {s : State} where
+  pub needs_hold : {ls : List Literal} {u : Unit} → Tested s ls (Ok u) → all_hold s ls ≡ true
+  needs_hold h = sym h.holds
 
-  pub needs_fail : {ls : List Literal} {a : Atom} → Tested s ls t → t ≡ Fails a → (all_hold s ls ≡ false) × (unmet s ls ≡ a.0)
-  needs_fail h e = (sym h.holds ∙ ap holds_in e, sym h.atom ∙ ap unmet_in e)
+  pub needs_fail : {ls : List Literal} {a : Atom} → Tested s ls (Err a) → (all_hold s ls ≡ false) × (unmet s ls ≡ a.0)
+  needs_fail h = (sym h.holds, sym h.atom)
 
-  pub goal_holds : {g : Formula} → GoalTested s g t → t ≡ Holds → formula_holds s g ≡ true
-  goal_holds h e = sym h.holds ∙ ap holds_in e
+  pub goal_holds : {g : Formula} {u : Unit} → GoalTested s g (Ok u) → formula_holds s g ≡ true
+  goal_holds h = sym h.holds
 
-  pub goal_fails : {g : Formula} {a : Atom} → GoalTested s g t → t ≡ Fails a → (formula_holds s g ≡ false) × (unmet_goal s g ≡ a.0)
-  goal_fails h e = (sym h.holds ∙ ap holds_in e, sym h.atom ∙ ap unmet_in e)
+  pub goal_fails : {g : Formula} {a : Atom} → GoalTested s g (Err a) → (formula_holds s g ≡ false) × (unmet_goal s g ≡ a.0)
+  goal_fails h = (sym h.holds, sym h.atom)
 
 -- A method's questions from its rows.
 module _ {shop order table : List ℕ} {m : ℕ} {rows : MethodRows} (a : MethodAt shop order table m rows) (s : State) (goal : Span) (load : Load)
-    (r : Failure) {test : Test}
-    (needs : Tested s (literals Tag.needs_true Tag.needs_false (span_rows shop order (span_of Of.Shop rows.from.0 rows.first.0))) test) where
+    {head : List Row} (head_is : head ≡ span_rows shop order (span_of Of.Shop rows.from.0 rows.first.0)) {test : Result Unit Atom}
+    (needs : Tested s (literals Tag.needs_true Tag.needs_false head) test) where
   asked_needs : Tested s (method_at (domain shop) m).needs test
-  asked_needs = subst (λ (ls : List Literal). Tested s ls test) a.needs needs
+  asked_needs = subst (λ (ls : List Literal). Tested s ls test) (ap (literals Tag.needs_true Tag.needs_false) head_is ∙ a.needs) needs
 
-  pub method_unable : {atom : Atom} → test ≡ Fails atom → failure_of r ≡ (30 asks false naming atom.0).failure → Answers shop order s goal load (Run.use_method m) r
-  method_unable e z n P p f =
-      let u = needs_fail asked_needs e in
-      z ∙ sym (ap told (use_30 shop order s goal load.count load.limit n p P f m u.0) ∙ ap (λ (k : ℕ). (30 asks false naming k).failure) u.1)
+  pub method_unable : {atom : Atom} (q : Failure) → test ≡ Err atom → failure_of q ≡ (30 asks false naming atom.0).failure
+      → Answers shop order s goal load (Run.use_method m) (Err q)
+  method_unable q e z n P p f =
+      let u = needs_fail (rw e at asked_needs) in
+      ap Questions.refused z
+      ∙ sym (use_30 shop order s goal load.count load.limit n p P f m u.0 ∙ ap (λ (k : ℕ). Questions.refused (30 asks false naming k).failure) u.1)
 
-  module _ (yes : test ≡ Holds) (nodes : Nodes) (counted : (bs : List Bounds) → Walk table rows.end.0 rows.first.0 bs → NodesCounted rows.end.0 bs nodes) {helps u : Bool}
-      (said : helps ≡ relevant (literals Tag.wanted_true Tag.wanted_false (span_rows shop order (span_of Of.Shop nodes.last.0 rows.end.0))) (node_of (span_rows shop order goal)).formula)
-      (tells : helps ≡ u) where
-    asked_goal : relevant (goal_of (method_at (domain shop) m)) (node_of (span_rows shop order goal)).formula ≡ u
+  module _ {u : Unit} (yes : test ≡ Ok u) (nodes : Nodes) (counted : (bs : List Bounds) → Walk table rows.end.0 rows.first.0 bs → NodesCounted rows.end.0 bs nodes)
+      {last : List Row} (last_is : last ≡ span_rows shop order (span_of Of.Shop nodes.last.0 rows.end.0)) {helps v : Bool}
+      (said : helps ≡ relevant (literals Tag.wanted_true Tag.wanted_false last) (node_of (span_rows shop order goal)).formula)
+      (tells : helps ≡ v) where
+    asked_goal : relevant (goal_of (method_at (domain shop) m)) (node_of (span_rows shop order goal)).formula ≡ v
     asked_goal =
         let i = (counted a.bs a.walk).last_is (λ z. absurd (omega (arith, a.some))) in
-        sym (sym tells ∙ said ∙ ap (λ l. relevant l (node_of (span_rows shop order goal)).formula) (sym (a.goal i.0 nodes.last.0 i.1)))
+        sym (
+        sym tells ∙ said
+        ∙ ap (λ l. relevant l (node_of (span_rows shop order goal)).formula) (ap (literals Tag.wanted_true Tag.wanted_false) last_is ∙ sym (a.goal i.0 nodes.last.0 i.1))
+        )
 
-    pub method_irrelevant : u ≡ false → failure_of r ≡ (31 asks false).failure → Answers shop order s goal load (Run.use_method m) r
-    method_irrelevant e z n P p f = z ∙ sym (ap told (use_31 shop order s goal load.count load.limit n p P f m (needs_hold asked_needs yes) (asked_goal ∙ e)))
+    pub method_irrelevant : (q : Failure) → v ≡ false → failure_of q ≡ (31 asks false).failure → Answers shop order s goal load (Run.use_method m) (Err q)
+    method_irrelevant q e z n P p f =
+        ap Questions.refused z ∙ sym (use_31 shop order s goal load.count load.limit n p P f m (needs_hold (rw yes at asked_needs)) (asked_goal ∙ e))
 
     asked_size : {fits : Bool} → leb (load.count + nodes.count) load.limit ≡ fits → leb (load.count + length (network_of (method_at (domain shop) m))) load.limit ≡ fits
     asked_size h = ap (λ (k : ℕ). leb (load.count + k) load.limit) (method_size a ∙ sym (counted a.bs a.walk).number) ∙ h
 
-    pub method_may : u ≡ true → leb (load.count + nodes.count) load.limit ≡ true → failure_of r ≡ told passed → Answers shop order s goal load (Run.use_method m) r
-    method_may e h z n P p f =
-        z ∙ sym (ap told (use_passed shop order s goal load.count load.limit n p P f m (needs_hold asked_needs yes) (asked_goal ∙ e) (asked_size h)))
+    pub method_may : {t : Unit {0}} → v ≡ true → leb (load.count + nodes.count) load.limit ≡ true → Answers shop order s goal load (Run.use_method m) (Ok t)
+    method_may e h n P p f = sym (use_passed shop order s goal load.count load.limit n p P f m (needs_hold (rw yes at asked_needs)) (asked_goal ∙ e) (asked_size h))
 
-    pub method_crowded : u ≡ true → leb (load.count + nodes.count) load.limit ≡ false → failure_of r ≡ (32 asks false).failure → Answers shop order s goal load (Run.use_method m) r
-    method_crowded e h z n P p f =
-        z ∙ sym (ap told (use_32 shop order s goal load.count load.limit n p P f m (needs_hold asked_needs yes) (asked_goal ∙ e) (asked_size h)))
+    pub method_crowded : (q : Failure) → v ≡ true → leb (load.count + nodes.count) load.limit ≡ false → failure_of q ≡ (32 asks false).failure
+        → Answers shop order s goal load (Run.use_method m) (Err q)
+    method_crowded q e h z n P p f =
+        ap Questions.refused z
+        ∙ sym (use_32 shop order s goal load.count load.limit n p P f m (needs_hold (rw yes at asked_needs)) (asked_goal ∙ e) (asked_size h))

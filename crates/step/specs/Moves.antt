@@ -1,20 +1,19 @@
 -- The code's moves, as the definitions have them. Document 01, "How a derivation runs".
-use Rattle.std.specs.Prelude.{ℕ, ◌+◌, ◌-◌, ◌<◌, ◌≤◌, cond, ◌&&◌, eqb, leb, ltb}
+use Rattle.std.specs.Prelude.{ℕ, Option, Some, None, ◌+◌, ◌-◌, ◌<◌, ◌≤◌, cond, ◌&&◌, eqb, leb, ltb}
 use Rattle.hgn.specs.Run as Run
 use Rattle.hgn.specs.Run.{first_method}
 use Rattle.step.specs.declared.moves.Move.{Move}
 use Rattle.step.specs.declared.moves.Move.TheVariants.{Release, Act, Use}
-use Rattle.step.specs.declared.moves.Read.{Read}
-use Rattle.step.specs.declared.moves.Read.TheVariants.{Readable, Unreadable}
 
 abbrev pub known_of : Move → Run.Move
 known_of Release = Run.release
 known_of (Act k) = Run.act k
 known_of (Use m) = Run.use_method m
 
-abbrev pub read_of : Read → Run.Move
-read_of (Readable m) = known_of m
-read_of Unreadable = Run.unknown
+-- What a number was read as: a number that is no move's stands for an unknown move.
+abbrev pub read_of : Option Move → Run.Move
+read_of (Some m) = known_of m
+read_of None = Run.unknown
 
 -- `Run.move_of` for a domain with so many actions and methods.
 unfoldable pub move_read : ℕ → ℕ → ℕ → Run.Move

@@ -28,32 +28,23 @@ pub struct Step {
     pub place: Place,
 }
 
-#[derive(Clone, Copy)]
-pub enum Read {
-    Readable(Move),
-    Unreadable,
-}
-
 impl Move {
     pub const RELEASE: u16 = 0;
     // The move that stands for method 0.
     pub const FIRST_METHOD: u16 = 256;
 
-    // A move by its number in a shop of so many actions and methods.
-    pub fn read(number: u16, actions: u16, methods: u16) -> Read
+    // A move by its number in a shop of so many actions and methods, if it is the number of one.
+    #[tactic(auto, unfolding(crate::specs::Moves::move_read))]
+    pub fn read(number: u16, actions: u16, methods: u16) -> Option<Move>
         ensures { read_of result ≡ move_read number actions methods }
     {
         if number == Self::RELEASE {
-            return Read::Readable(Move::Release);
+            return Some(Move::Release);
         }
         if number <= actions {
-            return Read::Readable(Move::Act(number));
+            return Some(Move::Act(number));
         }
-        if Self::FIRST_METHOD <= number {
-            if number - Self::FIRST_METHOD < methods {
-                return Read::Readable(Move::Use(number - Self::FIRST_METHOD));
-            }
-        }
-        Read::Unreadable
+        let method = number.checked_sub(Self::FIRST_METHOD)?;
+        (method < methods).then_some(Move::Use(method))
     }
 }

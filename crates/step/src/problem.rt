@@ -1,4 +1,4 @@
-// The record that a step moves forward: the atoms, and the words of the waiting goals. Document 01, "How a derivation runs".
+// The record that a step moves forward: the atoms, and the waiting goals. Document 01, "How a derivation runs".
 ghost use Rattle.std.specs.Prelude.{◌≡◌, ◌≤◌};
 ghost use Rattle.hgn.specs.State.{γ};
 ghost use Rattle.hgn.specs.Run.{action_at};
@@ -9,38 +9,27 @@ use crate::failure::Failure;
 use network::goals::Goals;
 use sheet_check::check::Shop;
 use sheet_index::operators;
-use sheet_rows::tag;
 use state::atoms;
+use state::literals::LiteralTags;
 
 #[derive(Clone, Copy)]
 pub struct Problem {
     pub atoms: [bool; Shop::MOST_ATOMS as usize],
-    pub waiting: [u16; Goals::WORDS],
+    pub waiting: Goals,
 }
 
-// What a step comes to: no refusal and the next record; or what the first question that fails tells, and the record as it was.
+// What is shown of a step: that it is taken, and the next record; or what the first question that fails tells, and the record as it was.
 #[derive(Clone, Copy)]
 pub struct Stepped {
-    pub failure: Failure,
+    pub answer: Result<(), Failure>,
     pub problem: Problem,
 }
 
-impl Stepped {
-    pub fn refused(failure: Failure, problem: Problem) -> Stepped
-        ensures { (result.failure ≡ failure) × (result.problem ≡ problem) }
-    {
-        Stepped {
-            failure: failure,
-            problem: problem,
-        }
-    }
-}
-
 // An action by its number changes the state where it stands: its effects are set one after the other, as no atom stands twice among them.
-pub fn act<'a>(
+pub fn act(
     atoms: &mut [bool; Shop::MOST_ATOMS as usize],
-    shop: &'a [u16],
-    order: &'a [u16],
+    shop: &[u16],
+    order: &[u16],
     tables: &[u16],
     action: u16,
 )
@@ -49,5 +38,5 @@ pub fn act<'a>(
     ensures { atoms.new ≡ γ atoms.old (action_at (domain shop.now) action).effects }
 {
     let rows = operators::action_part(shop, tables, action);
-    atoms::set_each(atoms, shop, rows, tag::MAKES_TRUE, tag::MAKES_FALSE);
+    atoms::set_each(atoms, rows, LiteralTags::EFFECTS);
 }

@@ -4,94 +4,52 @@ use native.Mathlib.Omega.{arith}
 use mathlib.Core.Path.{◌≡◌, ap, ap₂, ◌∙◌}
 use mathlib.Core.List.{List, [], ◌++◌}
 use lib.ListN.{length, take, drop}
-use Rattle.hgn.specs.Questions.{Failure, passed}
+use Rattle.std.specs.Prelude.{Err}
+use Rattle.std.proofs.lemmas.Result.{err_from_is_err_and}
+use Rattle.hgn.specs.Questions.{Failure}
 use Rattle.hgn.specs.Replay.{refusal}
-use Rattle.hgn.specs.Trace.{step_count, check_trace}
+use Rattle.hgn.specs.Trace.{step_count}
 use Rattle.hgn.proofs.Sheets.Trace.{trace_sizes}
 use Rattle.sheet_check.proofs.Lookup.{length_part}
 use Rattle.replay.specs.Answers.{action_moves}
 use Rattle.replay.proofs.Calls.{sheet_refused, sheet_passes, room_short, run_stopped, run_accepted}
 use Rattle.replay.proofs.call.replay.Goals as goal
 
-pub returns-then-refusal-ne0 : goal.returns-then-refusal-ne0
-returns-then-refusal-ne0 c =
-    let shop : List ℕ = c.args.shop.now in
-    let order : List ℕ = c.args.order.now in
-    let trace : List ℕ = c.args.trace.now in
-    let room : List ℕ = c.args.plan.now in
-    sheet_refused shop order trace room c.check_trace-refusal.result
-    c.check_trace-refusal.ensures c.if-refusal-ne0.true c.refused.result
-    (c.refused.ensures ∙ ap (λ (f : Failure). (refusal [] f).answer) c.of.ensures)
+pub returns-in_err-check_trace : goal.returns-in_err-check_trace
+returns-in_err-check_trace c =
+    let p = err_from_is_err_and c.from_residual.result c.from_residual.ensures.1 in
+    sheet_refused _ _ _ _ c.in_err-check_trace.field-0.0 c.in_err-check_trace.ensures c.from_residual.result (rw p.1 (ap (λ (f : Failure). (refusal [] f).answer) p.2))
 
 pub returns-then-plan-word : goal.returns-then-plan-word
 returns-then-plan-word c =
-    let shop : List ℕ = c.args.shop.now in
-    let order : List ℕ = c.args.order.now in
-    let trace : List ℕ = c.args.trace.now in
-    let room : List ℕ = c.args.plan.now in
-    room_short shop order trace room
-    (sheet_passes shop order trace room c.check_trace-refusal.result
-    c.check_trace-refusal.ensures c.if-refusal-ne0.false)
-    (omega (arith, c.if-plan-word.true, c.word.ensures)) c.refused-then-plan-word.result
-    (c.refused-then-plan-word.ensures ∙ ap (λ (f : Failure). (refusal [] f).answer) c.by.ensures)
+    room_short _ _ _ _ (sheet_passes _ _ _ c.args.plan.now c.in_ok-check_trace.ensures) (omega (arith, c.if-plan-word.true, c.word.ensures)) (Err c.by.result)
+    (ap (λ (f : Failure). (refusal [] f).answer) c.by.ensures)
 
-pub run_checked-answer-requires : goal.run_checked-answer-requires
-run_checked-answer-requires c =
-    let shop : List ℕ = c.args.shop.now in
-    let order : List ℕ = c.args.order.now in
-    let trace : List ℕ = c.args.trace.now in
-    let room : List ℕ = c.args.plan.now in
-    let passes : check_trace shop order trace ≡ passed = sheet_passes shop order trace room c.check_trace-refusal.result
-    c.check_trace-refusal.ensures c.if-refusal-ne0.false in
-    passes
+pub run_checked-requires : goal.run_checked-requires
+run_checked-requires c = sheet_passes _ _ _ c.args.plan.now c.in_ok-check_trace.ensures
 
-pub returns-then-answer-ne0 : goal.returns-then-answer-ne0
-returns-then-answer-ne0 c =
-    let shop : List ℕ = c.args.shop.now in
-    let order : List ℕ = c.args.order.now in
-    let trace : List ℕ = c.args.trace.now in
-    let room : List ℕ = c.args.plan.now in
-    let passes : check_trace shop order trace ≡ passed = sheet_passes shop order trace room c.check_trace-refusal.result
-    c.check_trace-refusal.ensures c.if-refusal-ne0.false in
-    let enough : step_count trace ≤ length room = omega (arith, c.if-plan-word.false, c.word.ensures) in
-    run_stopped _ _ _ _ passes enough c.run_checked-answer.result
-    c.run_checked-answer.ensures c.if-answer-ne0.true
+pub returns-in_err-accepted : goal.returns-in_err-accepted
+returns-in_err-accepted c =
+    let p = err_from_is_err_and c.from_residual-in_err-accepted.result c.from_residual-in_err-accepted.ensures.1 in
+    rw (p.1, p.2) (run_stopped _ _ _ _ (sheet_passes _ _ _ c.args.plan.now c.in_ok-check_trace.ensures) (omega (arith, c.if-plan-word.false, c.word.ensures))
+    c.in_err-accepted.field-0.0 c.in_err-accepted.ensures)
 
 pub moves_of-requires : goal.moves_of-requires
-moves_of-requires c =
-    let shop : List ℕ = c.args.shop.now in
-    let order : List ℕ = c.args.order.now in
-    let trace : List ℕ = c.args.trace.now in
-    let room : List ℕ = c.args.plan.now in
-    let passes : check_trace shop order trace ≡ passed = sheet_passes shop order trace room c.check_trace-refusal.result
-    c.check_trace-refusal.ensures c.if-refusal-ne0.false in
-    omega (arith, (trace_sizes _ _ _ passes).0)
+moves_of-requires c = omega (arith, (trace_sizes _ _ _ (sheet_passes _ _ _ c.args.plan.now c.in_ok-check_trace.ensures)).0)
 
 pub write_plan-requires : goal.write_plan-requires
 write_plan-requires c =
-    let shop : List ℕ = c.args.shop.now in
-    let order : List ℕ = c.args.order.now in
     let trace : List ℕ = c.args.trace.now in
-    let room : List ℕ = c.args.plan.now in
-    let passes : check_trace shop order trace ≡ passed = sheet_passes shop order trace room c.check_trace-refusal.result
-    c.check_trace-refusal.ensures c.if-refusal-ne0.false in
-    let enough : step_count trace ≤ length room = omega (arith, c.if-plan-word.false, c.word.ensures) in
-    let moves_length : length (take (step_count trace) (drop 1 trace)) ≡ step_count trace = length_part trace 1 (step_count trace) (omega (arith, (trace_sizes shop order trace passes).0)) in
+    let passes = sheet_passes _ _ _ c.args.plan.now c.in_ok-check_trace.ensures in
+    let enough : step_count trace ≤ length c.args.plan.now = omega (arith, c.if-plan-word.false, c.word.ensures) in
+    let moves_length : length (take (step_count trace) (drop 1 trace)) ≡ step_count trace = length_part trace 1 (step_count trace) (omega (arith, (trace_sizes _ _ _ passes).0)) in
     rw (ap length c.moves_of.ensures ∙ moves_length) enough
 
 pub returns : goal.returns
 returns c =
-    let shop : List ℕ = c.args.shop.now in
-    let order : List ℕ = c.args.order.now in
-    let trace : List ℕ = c.args.trace.now in
     let room : List ℕ = c.args.plan.now in
-    let passes : check_trace shop order trace ≡ passed = sheet_passes shop order trace room c.check_trace-refusal.result
-    c.check_trace-refusal.ensures c.if-refusal-ne0.false in
-    let enough : step_count trace ≤ length room = omega (arith, c.if-plan-word.false, c.word.ensures) in
-    run_accepted shop order trace room passes enough
-    c.run_checked-answer.result
-    c.run_checked-answer.ensures c.if-answer-ne0.false
-    c.write_plan.new.room
+    run_accepted _ _ _ room (sheet_passes _ _ _ room c.in_ok-check_trace.ensures) (omega (arith, c.if-plan-word.false, c.word.ensures)) _
+    c.in_ok-accepted.ensures _
     (c.write_plan.ensures
     ∙ ap₂ {C = List ℕ} (λ (k : ℕ) (ms : List ℕ). action_moves k ms ++ drop (length (action_moves k ms)) room)
     c.word-2.ensures c.moves_of.ensures)

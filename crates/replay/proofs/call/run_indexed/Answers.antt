@@ -13,7 +13,7 @@ pub begun-requires : goal.begun-requires
 begun-requires c =
     record {
       order_value = order_of_trace c.args.shop.now c.args.order.now c.args.trace.now c.requires.trace_value;
-      most_methods_in_bounds = (c.requires.most_methods_in_bounds, c.empty-goals.ensures.0.size);
+      most_methods_in_bounds = c.requires.most_methods_in_bounds;
     }
 
 pub start-atoms-requires : goal.start-atoms-requires

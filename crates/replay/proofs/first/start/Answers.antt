@@ -2,9 +2,9 @@
 use Prim.Native.Nat.{ℕ}
 use mathlib.Core.Path.{ap, ap₂, ◌∙◌}
 use mathlib.Core.Bool.{Bool, true}
-use mathlib.Core.List.{List, zip_with}
+use mathlib.Core.List.{List}
 use Rattle.hgn.specs.Run.{start_of}
-use Rattle.hgn.specs.Rows.{Row, row, values_tagged}
+use Rattle.hgn.specs.Rows.{Row, values_tagged}
 use Rattle.hgn.specs.Meaning.{order_of}
 use Rattle.hgn.specs.Order as Order
 use Rattle.hgn.specs.State.{State, assign}
@@ -14,11 +14,11 @@ use Rattle.replay.proofs.Firsts.{whole_rows}
 use Rattle.replay.proofs.first.start.Goals as goal
 
 pub returns : goal.returns
-unfolding Order.order order_of span_rows start_of
+unfolding Order.order order_of start_of
 returns c =
     c.assigned.ensures
     ∙ ap₂ {C = List Bool} (λ (l : List Row) (a : State). assign true (values_tagged 12 l) a)
-    (ap₂ (zip_with row) c.tags_of-tags.ensures c.values_of-values.ensures
+    (c.rows.ensures.rows
     ∙ ap (λ (n : ℕ). span_rows c.args.shop.now c.args.order.now (span_of Of.Order 0 n)) c.word.ensures
     ∙ whole_rows c.args.shop.now c.args.order.now c.requires)
-    c.empty-empty.ensures
+    c.empty.ensures

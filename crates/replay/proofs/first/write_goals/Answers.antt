@@ -1,7 +1,7 @@
 -- The nodes of the order, walked along its table (`Firsts`), are all that waits. Assumes nothing.
 use Prim.Native.Nat.{ℕ}
 use native.Mathlib.Omega.{arith}
-use mathlib.Core.Path.{refl, sym, subst, ◌∙◌}
+use mathlib.Core.Path.{sym, subst, ◌∙◌}
 use Rattle.hgn.proofs.Sheets.Checked.{order_count, order_goals}
 use Rattle.sheet_index.specs.Tables.{Walk}
 use Rattle.sheet_check.proofs.Orders.{order_few}
@@ -10,13 +10,14 @@ use Rattle.replay.proofs.first.write_goals.Goals as goal
 
 pub begin-requires : goal.begin-requires
 begin-requires c =
-    let found : GoalsAt c.args.shop.now c.args.order.now c.args.tables.now c.first_node-first.result.0 = subst (GoalsAt c.args.shop.now c.args.order.now c.args.tables.now) (sym c.first_node-first.ensures)
-    (goals_read c.requires.0) in
-    let walk : Walk c.args.tables.now c.of-sizes.result.rows c.first_node-first.result.0 found.bs = subst (λ (e : ℕ). Walk c.args.tables.now e c.first_node-first.result.0 found.bs) (sym c.of-sizes.ensures.rows) found.walk in
-    let k = c.requires.0.checked in
+    let found : GoalsAt c.args.shop.now c.args.order.now c.args.tables.now c.first_node.result.0 =
+    subst (GoalsAt c.args.shop.now c.args.order.now c.args.tables.now) (sym c.first_node.ensures)
+    (goals_read c.requires) in
+    let walk : Walk c.args.tables.now c.of-sizes.result.rows c.first_node.result.0 found.bs =
+    subst (λ (e : ℕ). Walk c.args.tables.now e c.first_node.result.0 found.bs) (sym c.of-sizes.ensures.rows) found.walk in
+    let k = c.requires.checked in
     record {
-      goals_len = (
-        c.requires.1,
+      few = (
         omega (arith, c.of-sizes.ensures.goals, order_count c.args.shop.now c.args.order.now k, order_goals c.args.shop.now c.args.order.now k),
         omega (arith, c.of-sizes.ensures.rows, order_few c.args.shop.now c.args.order.now k),
       );
@@ -25,7 +26,9 @@ begin-requires c =
 
 pub returns : goal.returns
 returns c =
-    let found : GoalsAt c.args.shop.now c.args.order.now c.args.tables.now c.first_node-first.result.0 = subst (GoalsAt c.args.shop.now c.args.order.now c.args.tables.now) (sym c.first_node-first.ensures)
-    (goals_read c.requires.0) in
-    let walk : Walk c.args.tables.now c.of-sizes.result.rows c.first_node-first.result.0 found.bs = subst (λ (e : ℕ). Walk c.args.tables.now e c.first_node-first.result.0 found.bs) (sym c.of-sizes.ensures.rows) found.walk in
-    goals_begun c.requires.0 _ found _ _ refl (c.begin.ensures found.bs walk)
+    let found : GoalsAt c.args.shop.now c.args.order.now c.args.tables.now c.first_node.result.0 =
+    subst (GoalsAt c.args.shop.now c.args.order.now c.args.tables.now) (sym c.first_node.ensures)
+    (goals_read c.requires) in
+    let walk : Walk c.args.tables.now c.of-sizes.result.rows c.first_node.result.0 found.bs =
+    subst (λ (e : ℕ). Walk c.args.tables.now e c.first_node.result.0 found.bs) (sym c.of-sizes.ensures.rows) found.walk in
+    goals_begun c.requires _ found _ _ (c.begin.ensures found.bs walk)

@@ -4,10 +4,10 @@ use Rattle.sheet_join.proofs.Putting.{afters_all, after_next, afters_done}
 use Rattle.sheet_join.proofs.rows.put_afters.Goals as goal
 
 pub loop-goal-init : goal.loop-goal-init
-loop-goal-init c = (omega arith, afters_all _ _ _ _ _)
+loop-goal-init c = afters_all _ _ _ _ _
 
 pub loop-goal-preserved : goal.loop-goal-preserved
-loop-goal-preserved c = (omega arith, after_next _ _ _ _ _ c.args.before c.loop-goal.goal (omega arith) c.loop-goal.invariant.1 c.put.ensures)
+loop-goal-preserved c = after_next _ _ _ _ _ c.args.before c.loop-goal.goal (omega arith) c.loop-goal.invariant c.put.ensures
 
 pub returns : goal.returns
-returns c = afters_done _ _ _ _ _ c.args.before c.loop-goal.goal (omega arith) c.loop-goal.invariant.1
+returns c = afters_done _ _ _ _ _ c.args.before c.loop-goal.goal (omega arith) c.loop-goal.invariant

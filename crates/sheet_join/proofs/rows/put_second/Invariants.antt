@@ -1,10 +1,10 @@
 -- Before each row of the second order, what the rest of its rows becomes is left to put. Assumes nothing.
 use mathlib.Core.List.{List, flat_map}
-use Prim.Native.Nat.{ℕ, ◌+◌, ◌≤◌, ◌-◌}
+use Prim.Native.Nat.{ℕ, ◌+◌, ◌≤◌}
 use lib.ListN.{length, drop}
 use Rattle.hgn.specs.Rows.{Row}
 use Rattle.hgn.specs.JoinSheet.{raised_row}
-use Rattle.hgn.specs.Order.{row_count, order_rows}
+use Rattle.hgn.specs.Order.{order_rows}
 use Rattle.sheet_join.proofs.Putting.{Left}
 use Rattle.sheet_join.proofs.rows.put_second.Given as goal
 
@@ -14,9 +14,5 @@ raised before second i = flat_map (raised_row before) (drop i (order_rows second
 
 abbrev pub invariant-loop-i : goal.invariant-loop-i
 invariant-loop-i l =
-    (l.i ≤ row_count l.second)
-    × (l.next + length (raised l.before l.second l.i) ≤ l.into.rows)
-    × Left l.into.sizes l.into.rows l.at (raised l.before l.second l.initial.i) l.initial.room l.next (raised l.before l.second l.i) l.room
-
-abbrev pub decreases-loop-i : goal.decreases-loop-i
-decreases-loop-i l = row_count l.second - l.i
+    (l.next + length (raised l.joining.before l.second l.i) ≤ l.into.rows)
+    × Left l.into.sizes l.into.rows l.at (raised l.joining.before l.second l.initial.i) l.initial.room l.next (raised l.joining.before l.second l.i) l.room

@@ -10,9 +10,6 @@ use Rattle.step.proofs.problem.act.Goals as goal
 pub action_part-rows-requires : goal.action_part-rows-requires
 action_part-rows-requires c = let p = c.requires in (_, p.indexed, p.le_action.0, p.le_action.1)
 
-pub set_each-requires : goal.set_each-requires
-set_each-requires c = c.action_part-rows.ensures.lies
-
 pub returns : goal.returns
 returns c =
     c.set_each.ensures

@@ -1,18 +1,11 @@
--- The step on a record comes to what the step in place comes to, at its atoms and words. Assumes nothing.
-use mathlib.Core.Path.{refl}
-use Rattle.step.proofs.Taken.{step_refused, step_taken}
+-- The step on a record answers what the step in place comes to, at its atoms and words. Assumes nothing.
+use Rattle.std.proofs.lemmas.Result.{err_from_is_err_and}
 use Rattle.step.proofs.record.step.Goals as goal
 
-pub take-decision-requires : goal.take-decision-requires
-take-decision-requires c =
-    let p = c.requires in
-    record {
-      indexed = (p.indexed.0, p.going.0, p.going.1);
-      limit_le_most_waiting = p.indexed.1;
-    }
+pub returns-in_err-take : goal.returns-in_err-take
+returns-in_err-take c =
+    let p = err_from_is_err_and c.from_residual.result c.from_residual.ensures.1 in
+    rw (p.1, p.2) c.in_err-take.ensures.0
 
-pub returns-in-Refused : goal.returns-in-Refused
-returns-in-Refused c = step_refused _ _ _ _ _ _ _ _ _ c.take-decision.ensures c.requires.going.0.valid c.in-Refused.is c.refused.ensures
-
-pub returns-in-Allowed : goal.returns-in-Allowed
-returns-in-Allowed c = step_taken _ _ _ _ _ _ _ _ _ c.take-decision.ensures c.in-Allowed.is c.none-failure.ensures refl
+pub returns : goal.returns
+returns c = record { deed = _; comes = c.in_ok-take.ensures.comes; valid = c.in_ok-take.ensures.valid }

@@ -1,7 +1,7 @@
 -- The refusal, with no atom. Assumes nothing.
-use mathlib.Core.Path.{ap, ◌∙◌}
+use mathlib.Core.Path.{ap}
 use Rattle.hgn.specs.Questions.{without_atom}
 use Rattle.step.proofs.failure.Failure.by.Goals as goal
 
 pub returns : goal.returns
-returns c = c.of.ensures ∙ ap without_atom c.by.ensures
+returns c = ap without_atom c.by.ensures
