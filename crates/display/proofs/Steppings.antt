@@ -25,6 +25,7 @@ use Rattle.hgn.proofs.Run.Replay.{inputs_passed, replay_passed}
 use Rattle.hgn.proofs.Network.Reached.{one_more}
 use Rattle.hgn.proofs.Sheets.Trace.{trace_sizes}
 use Rattle.sheet_index.proofs.Spans.{by_test}
+use Rattle.step.specs.Failures.{told_of}
 use Rattle.step.specs.Steps.{problem_in, Comes}
 use Rattle.step.specs.declared.problem.Problem.{Problem}
 use Rattle.step.proofs.Taken.{going_taken, going_refused}
@@ -67,10 +68,10 @@ place_reported d steps room (accepted deeds s) = refl
 module _ (shop sheet : List ℕ) where
   -- What a call showed of a step that is refused, and of one that is taken.
   module _ (n : ℕ) (b : Problem) (x : Step) (c : StepCall shop sheet n x b) where
-    comes : (o : Stepped) → stepped_at shop sheet n x b ≡ o → Comes shop sheet o (record { failure = c.answer; problem = c.after })
-    comes o e = subst (λ (s : Stepped). Comes shop sheet s (record { failure = c.answer; problem = c.after })) e c.forward.comes_to
+    comes : (o : Stepped) → stepped_at shop sheet n x b ≡ o → Comes shop sheet o (record { answer = c.answer; problem = c.after })
+    comes o e = subst (λ (s : Stepped). Comes shop sheet s (record { answer = c.answer; problem = c.after })) e c.forward.comes_to
 
-    not_zero : (q : Questions.Failure) → stepped_at shop sheet n x b ≡ refused q → c.answer.refusal.number ≢ 0
+    not_zero : (q : Questions.Failure) → stepped_at shop sheet n x b ≡ refused q → (told_of c.answer).refusal.number ≢ 0
     not_zero q e z = (comes (refused q) e).1 (sym (ap (λ (f : Questions.Failure). f.refusal.number) (comes (refused q) e).0) ∙ z)
 
     did : (deed : Deed) (P : Run.Problem) → stepped_at shop sheet n x b ≡ taken deed P
@@ -86,15 +87,15 @@ module _ (shop sheet : List ℕ) where
   shown_run n b (x ∷ xs) cs = go (stepped_at shop sheet n x b) refl (λ a. shown_run (suc n) cs.0.after xs (cs.1 a))
     where
       go : (o : Stepped) → stepped_at shop sheet n x b ≡ o
-          → ((a : cs.0.answer.refusal.number ≡ 0) → shown_by shop sheet (suc n) cs.0.after xs (cs.1 a) ≡ run (rules_of shop) (suc n) (problem_in shop sheet cs.0.after) xs)
+          → ((a : (told_of cs.0.answer).refusal.number ≡ 0) → shown_by shop sheet (suc n) cs.0.after xs (cs.1 a) ≡ run (rules_of shop) (suc n) (problem_in shop sheet cs.0.after) xs)
           → shown_by shop sheet n b (x ∷ xs) cs ≡ run (rules_of shop) n (problem_in shop sheet b) (x ∷ xs)
       go (refused q) e h =
-          stops _ cs.0.answer.refusal.number _ (not_zero n b x cs.0 q e)
+          stops _ (told_of cs.0.answer).refusal.number _ (not_zero n b x cs.0 q e)
           ∙ ap (λ (f : Questions.Failure). stopped (failed_at n f)) (comes n b x cs.0 (refused q) e).0
           ∙ sym (run_cons (stepped (rules_of shop)) n (problem_in shop sheet b) x xs ∙ ap (resumed (stepped (rules_of shop)) n xs) e)
       go (taken deed P) e h =
           let t = comes n b x cs.0 (taken deed P) e in
-          both_on (λ (o : Outcome) (u : Unit {0}). o ≡ run (rules_of shop) n (problem_in shop sheet b) (x ∷ xs)) _ tt cs.0.answer.refusal.number _
+          both_on (λ (o : Outcome) (u : Unit {0}). o ≡ run (rules_of shop) n (problem_in shop sheet b) (x ∷ xs)) _ tt (told_of cs.0.answer).refusal.number _
           (λ z. tt) (ap (λ (f : Questions.Failure). f.refusal.number) t.0)
           (λ z. ap₂ {C = Outcome} prepend (did n b x cs.0 deed P e)
           (h z ∙ ap (λ (Q : Run.Problem). run (rules_of shop) (suc n) Q xs) t.1)
@@ -117,7 +118,7 @@ module _ (shop sheet : List ℕ) where
   left P₀ ys n b (x ∷ xs) cs l h = go (stepped_at shop sheet n x b) refl (λ a. left P₀ (ys ++ (x ∷ [])) (suc n) cs.0.after xs (cs.1 a) (sym (one_more ys x) ∙ ap suc l))
     where
       go : (o : Stepped) → stepped_at shop sheet n x b ≡ o
-          → ((a : cs.0.answer.refusal.number ≡ 0) → Reached (rules_of shop) P₀ (ys ++ (x ∷ [])) (problem_in shop sheet cs.0.after)
+          → ((a : (told_of cs.0.answer).refusal.number ≡ 0) → Reached (rules_of shop) P₀ (ys ++ (x ∷ [])) (problem_in shop sheet cs.0.after)
           → Left P₀ (ys ++ (x ∷ [])) (suc n) xs (shown_by shop sheet (suc n) cs.0.after xs (cs.1 a)) (left_by shop sheet (suc n) cs.0.after xs (cs.1 a)))
           → Left P₀ ys n (x ∷ xs) (shown_by shop sheet n b (x ∷ xs) cs) (left_by shop sheet n b (x ∷ xs) cs)
       go (refused q) e ih =
@@ -125,16 +126,16 @@ module _ (shop sheet : List ℕ) where
           record {
             steps = 0;
             reached =
-                subst (λ (c : Problem). Reached (rules_of shop) P₀ (ys ++ []) (problem_in shop sheet c)) (sym (stops _ cs.0.answer.refusal.number _ z ∙ cs.0.forward.unchanged z))
+                subst (λ (c : Problem). Reached (rules_of shop) P₀ (ys ++ []) (problem_in shop sheet c)) (sym (stops _ (told_of cs.0.answer).refusal.number _ z ∙ cs.0.forward.unchanged z))
                 (subst (λ (zs : List Step). Reached (rules_of shop) P₀ zs (problem_in shop sheet b)) (sym (append-nil ys)) h);
-            place = ap (place_of (n + suc (length xs))) (stops _ cs.0.answer.refusal.number _ z) ∙ sym (add-zero n);
+            place = ap (place_of (n + suc (length xs))) (stops _ (told_of cs.0.answer).refusal.number _ z) ∙ sym (add-zero n);
           }
       go (taken deed P) e ih =
           let t = comes n b x cs.0 (taken deed P) e in
           let r : Reached (rules_of shop) P₀ (ys ++ (x ∷ [])) (problem_in shop sheet cs.0.after) =
           subst (Reached (rules_of shop) P₀ (ys ++ (x ∷ []))) (sym t.1) (next x h (ap (λ (k : ℕ). stepped (rules_of shop) k (problem_in shop sheet b) x) l ∙ e))
           in
-          both_on (Left P₀ ys n (x ∷ xs)) _ _ cs.0.answer.refusal.number _ _ (ap (λ (f : Questions.Failure). f.refusal.number) t.0) (λ z.
+          both_on (Left P₀ ys n (x ∷ xs)) _ _ (told_of cs.0.answer).refusal.number _ _ (ap (λ (f : Questions.Failure). f.refusal.number) t.0) (λ z.
           let i = ih z r in
           let longer : n + suc (length xs) ≡ suc n + length xs = omega arith in
           let one_on : suc n + i.steps ≡ n + suc i.steps = omega arith in
@@ -169,7 +170,7 @@ display_shows_replay shop sheet trace room c inputs called b f cs =
 pub display_goes_on : DisplayGoesOn
 display_goes_on = record {
   begins = λ shop sheet table b f. (ap₂ {C = Run.Problem} (λ s w. record { state = s; waiting = w }) f.atoms f.goals.list, going_first b.atoms f.goals);
-  goes_on = λ shop sheet n x b c g. by_test (eqb c.answer.refusal.number 0)
+  goes_on = λ shop sheet n x b c g. by_test (eqb (told_of c.answer).refusal.number 0)
       (λ z. rw z (going_taken most_waiting (omega arith) x g c.forward (eqb-true _ _ z)))
       (λ z. rw z (going_refused most_waiting (omega arith) x g c.forward (eqb-false _ _ z)));
 }

@@ -8,24 +8,17 @@ use mathlib.Core.List.{List, ◌∷◌}
 use mathlib.Core.Option.{Option, none, some}
 use lib.ListN.{length, drop, drop_of_length-le}
 use lib.Seq.{drop-cons}
-use borrow.Author.Tests.{eq-eqb}
 use Rattle.hgn.specs.Network.{Name, Waiting, same_name, is_parent, no_goal, goal_at, above_from, goals_above}
 use Rattle.hgn.specs.Order as Sheet
 use Rattle.hgn.proofs.Logic.Tests.{at_of_lt, same_name_true, same_name_refl, is_parent_iff, not_true_false, false_not_true}
 use Rattle.hgn.proofs.Network.Above.{above_none, above_from_law}
 use Rattle.hgn.proofs.Listing.Trees.{Any, reached_tree}
-use Rattle.network.specs.Entries.{order_origin, name_of, waiting_of}
+use Rattle.network.specs.Entries.{name_in, name_of, waiting_of}
 use Rattle.network.specs.Goals.{count_in, entry_in, list_in}
 use Rattle.network.specs.Reaching.{ListReached}
-use Rattle.network.specs.declared.waiting.Name as Code
+use Rattle.network.specs.declared.goals.Goals.{Goals}
 use Rattle.network.specs.declared.waiting.Entry.{Entry}
 use Rattle.network.proofs.WaitingGoals.{list_length, list_at}
-
--- No goal is the parent of a goal of the order.
-pub parentless : (shop order : List ℕ) (name : Code.Name) (goal : Entry) → goal.name.origin ≡ order_origin
-    → false ≡ is_parent (name_of name) (waiting_of shop order goal).parent
-unfolding waiting_of is_parent
-parentless shop order name goal o = rw (eq-eqb _ _ o)
 
 -- A parent that stands first is found, and its own is looked for behind it; any other goal is passed.
 above_found : (q : Waiting) (w : List Waiting) (o : Option Name) → is_parent q.name o ≡ true → above_from (q ∷ w) o ≡ suc (above_from w q.parent)
@@ -40,12 +33,12 @@ above_passed q w (some a) h =
     (λ e. false_not_true (is_parent q.name (some a)) h ((is_parent_iff q.name (some a)).1 (ap {B = Option Name} some (same_name_true a q.name e)))))
 
 -- On the way up from a goal: so many are found of those before place `at`, and behind it the parent of the last one found is looked for.
-pub record Climbing (ws : List ℕ) (from : Entry) (at₀ : ℕ) (goal : Entry) (above at : ℕ) : Type 0 where
+pub record Climbing (ws : Goals) (from : Entry) (at₀ : ℕ) (goal : Entry) (above at : ℕ) : Type 0 where
   pub few : above ≤ at
   pub rest : (shop order : List ℕ) → above + above_from (drop at (list_in shop order ws)) (waiting_of shop order goal).parent
       ≡ above_from (drop at₀ (list_in shop order ws)) (waiting_of shop order from).parent
 
-module _ (ws : List ℕ) (from : Entry) (at₀ : ℕ) where
+module _ (ws : Goals) (from : Entry) (at₀ : ℕ) where
   pub climbing_start : Climbing ws from at₀ from 0 at₀
   climbing_start = record { few = omega arith; rest = λ shop order. omega arith }
 
@@ -56,7 +49,7 @@ module _ (ws : List ℕ) (from : Entry) (at₀ : ℕ) where
         drop-cons (list_in shop order ws) at no_goal (omega (arith, list_length shop order ws))
         ∙ ap₂ {C = List Waiting} (λ q k. q ∷ drop k (list_in shop order ws)) (list_at shop order ws at h ∙ ap (waiting_of shop order) (sym is)) (sym (add-one at))
 
-    pub climbing_found : ((shop order : List ℕ) → true ≡ is_parent (name_of other.name) (waiting_of shop order goal).parent)
+    pub climbing_found : ((shop order : List ℕ) → true ≡ is_parent (name_of (name_in other)) (waiting_of shop order goal).parent)
         → Climbing ws from at₀ other (above + 1) (at + 1)
     unfolding waiting_of
     climbing_found e = record {
@@ -68,7 +61,7 @@ module _ (ws : List ℕ) (from : Entry) (at₀ : ℕ) where
           omega (arith, v.rest shop order, met, found);
     }
 
-    pub climbing_passed : ((shop order : List ℕ) → false ≡ is_parent (name_of other.name) (waiting_of shop order goal).parent)
+    pub climbing_passed : ((shop order : List ℕ) → false ≡ is_parent (name_of (name_in other)) (waiting_of shop order goal).parent)
         → Climbing ws from at₀ goal above (at + 1)
     unfolding waiting_of
     climbing_passed e = record {
@@ -81,7 +74,7 @@ module _ (ws : List ℕ) (from : Entry) (at₀ : ℕ) where
     }
 
 -- Behind the last goal nothing is left to look for, and what is found is all that stand above.
-pub climbed : (ws : List ℕ) (p : ℕ) → p < count_in ws → {from goal : Entry} {above at : ℕ} → from ≡ entry_in ws p → Climbing ws from (p + 1) goal above at → count_in ws ≤ at
+pub climbed : (ws : Goals) (p : ℕ) → p < count_in ws → {from goal : Entry} {above at : ℕ} → from ≡ entry_in ws p → Climbing ws from (p + 1) goal above at → count_in ws ≤ at
     → (shop order : List ℕ) (n : ℕ) → ListReached shop order n (list_in shop order ws) → above ≡ goals_above (list_in shop order ws) (goal_at (list_in shop order ws) p)
 unfolding above_from
 climbed ws p inside {from} {goal} {above} {at} is v h shop order n r =

@@ -1,5 +1,4 @@
 -- Laws of the listing in the shape that the code asks for.
 pub mod Aboves
-pub mod Sources
 pub mod Telling
 pub mod Onward

@@ -10,18 +10,19 @@ use Rattle.hgn.specs.Listing.{lines_at, lines_of}
 use Rattle.hgn.proofs.Run.Runs.{resumes}
 use Rattle.step.specs.Taking.{problem_with, Going}
 use Rattle.listing.specs.Lines.{numbers_of, lines_told, Narrow, StepTold}
+use Rattle.network.specs.declared.goals.Goals.{Goals}
 use Rattle.listing.specs.declared.line.Line.{Line}
-use Rattle.listing.specs.declared.lines.Told.{Told}
+use Rattle.std.specs.Prelude.{Option}
 
 -- Behind step `n` of a run that does these deeds: the rest is accepted too, and the lines of the run are those told and those of the rest.
-pub record Onward (shop order : List ℕ) (n : ℕ) (xs : List Step) (deeds : List Deed) (last : State) (told : Told) (s : State) (ws : List ℕ) : Type 0 where
+pub record Onward (shop order : List ℕ) (n : ℕ) (xs : List Step) (deeds : List Deed) (last : State) (told : Option Line) (s : State) (ws : Goals) : Type 0 where
   pub rest : List Deed
   pub accepts : run (rules_of shop) (n + 1) (problem_with shop order s ws) xs ≡ accepted rest last
   pub lines : map numbers_of (lines_of n deeds) ≡ lines_told told ++ map numbers_of (lines_of (n + 1) rest)
   pub narrow : Narrow (lines_told told)
   pub going : Going shop order (n + 1) s ws
 
-pub onward : (shop order : List ℕ) (n : ℕ) (x : Step) (xs : List Step) (deeds : List Deed) (last : State) (s : State) (ws : List ℕ) (told : Told) (s' : State) (ws' : List ℕ)
+pub onward : (shop order : List ℕ) (n : ℕ) (x : Step) (xs : List Step) (deeds : List Deed) (last : State) (s : State) (ws : Goals) (told : Option Line) (s' : State) (ws' : Goals)
     → run (rules_of shop) n (problem_with shop order s ws) (x ∷ xs) ≡ accepted deeds last → StepTold shop order n x s ws told s' ws'
     → Onward shop order n xs deeds last told s' ws'
 unfolding lines_of

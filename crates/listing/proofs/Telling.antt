@@ -22,33 +22,34 @@ use Rattle.hgn.proofs.Logic.Tests.{at_of_lt}
 use Rattle.hgn.proofs.Network.Above.{above_below}
 use Rattle.hgn.proofs.Listing.Trees.{Any, reached_tree}
 use Rattle.hgn.proofs.Run.Steps.{refused≢taken, taken_deed, taken_problem, step_passed, taken_passed, took}
-use Rattle.network.specs.Entries.{source_of, waiting_of}
+use Rattle.network.specs.Entries.{source_in, waiting_of}
 use Rattle.network.specs.Goals.{count_in, entry_in, list_in}
 use Rattle.network.specs.declared.waiting.Entry.{Entry}
+use Rattle.network.specs.declared.goals.Goals.{Goals}
 use Rattle.network.proofs.WaitingGoals.{list_length, list_at}
 use Rattle.step.specs.Taking.{problem_with, Going, TakenBy}
 use Rattle.step.specs.declared.moves.Move.{Move}
 use Rattle.step.proofs.TakenSteps.{going_next}
 use Rattle.listing.specs.Lines.{numbers_of, Narrow, TellsMove, StepTold}
-use Rattle.listing.specs.declared.lines.Told.{Told}
+use Rattle.std.specs.Prelude.{Option}
 use Rattle.listing.specs.declared.line.Line.{Line}
-use Rattle.listing.proofs.Sources.{step_origin}
 
 -- The four numbers of the goal at a place.
-module _ (ws : List ℕ) (p : ℕ) (inside : p < count_in ws) (n : ℕ) (shop order : List ℕ) {goal : Entry} (is : goal ≡ entry_in ws p) where
+module _ (ws : Goals) (p : ℕ) (inside : p < count_in ws) (n : ℕ) (shop order : List ℕ) {goal : Entry} (is : goal ≡ entry_in ws p) where
   abbrev list : List Waiting
   list = list_in shop order ws
 
-  source_is : source_of goal ≡ (goal_at list p).source
+  source_is : source_in goal.source ≡ (goal_at list p).source
   unfolding waiting_of
-  source_is = ap source_of is ∙ sym (ap (λ (q : Waiting). q.source) (list_at shop order ws p inside))
+  source_is = ap (λ (e : Entry). source_in e.source) is ∙ sym (ap (λ (q : Waiting). q.source) (list_at shop order ws p inside))
 
-  pub line_numbers : {above method : ℕ} → above ≡ goals_above list (goal_at list p) → method ≡ method_number (source_of goal)
-      → ◌≡◌ {A = Line} (record { above = above; released = n; brought = goal.name.origin; method = method }) (numbers_of (line_of n (leaving list (goal_at list p))))
-  line_numbers a m = λ i. record {
+  pub line_numbers : {above brought method : ℕ} → above ≡ goals_above list (goal_at list p) → brought ≡ step_number (source_in goal.source)
+      → method ≡ method_number (source_in goal.source)
+      → ◌≡◌ {A = Line} (record { above = above; released = n; brought = brought; method = method }) (numbers_of (line_of n (leaving list (goal_at list p))))
+  line_numbers a b m = λ i. record {
     above = a i;
     released = n;
-    brought = (step_origin goal ∙ ap step_number source_is) i;
+    brought = (b ∙ ap step_number source_is) i;
     method = (m ∙ ap method_number source_is) i;
   }
 
@@ -68,13 +69,13 @@ module _ (P : Problem) (n p : ℕ) (d : Domain) (mv : ℕ) where
       go false false = refl
 
 -- Above a goal that waits at a problem that a run has come to stand fewer goals than may wait; so it is of each line that a move gives.
-few_above : {shop order : List ℕ} {n : ℕ} {s : State} (ws : List ℕ) → Going shop order n s ws → (p : ℕ) → p < length (list_in shop order ws)
+few_above : {shop order : List ℕ} {n : ℕ} {s : State} (ws : Goals) → Going shop order n s ws → (p : ℕ) → p < length (list_in shop order ws)
     → goals_above (list_in shop order ws) (goal_at (list_in shop order ws) p) < most_waiting
 few_above {shop} {order} ws going p h =
     let w = list_in shop order ws in
     let tree = reached_tree (Sheet.order order) going.reached.reached in
     let below = above_below Any w p (goal_at w p) tree.named.distinct tree.rooted (at_of_lt w p no_goal h) in
-    omega (arith, below, list_length shop order ws, going.valid.within.few)
+    omega (arith, below, list_length shop order ws, ws.few)
 
 lines_narrow : (P : Problem) (n p : ℕ) (m : Run.Move) → goals_above P.waiting (goal_at P.waiting p) < most_waiting
     → Narrow (map numbers_of (lines_at n (deed_of P p m)))
@@ -85,7 +86,7 @@ lines_narrow P n p (use_method m) h = tt
 lines_narrow P n p unknown h = tt
 
 -- What a step tells and leaves, at the atoms and the goals before it.
-module _ (shop order : List ℕ) (n : ℕ) (x : Step) (s : State) (ws : List ℕ) (told : Told) (s' : State) (ws' : List ℕ) where
+module _ (shop order : List ℕ) (n : ℕ) (x : Step) (s : State) (ws : Goals) (told : Option Line) (s' : State) (ws' : Goals) where
   pub taken_told : {m : Move} → Going shop order n s ws → TellsMove ws n x told → TakenBy most_waiting shop order n x m s ws s' ws'
       → StepTold shop order n x s ws told s' ws'
   taken_told going tells t deed P e =

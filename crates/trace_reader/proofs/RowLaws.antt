@@ -6,16 +6,14 @@ use native.Mathlib.Numerals.{add-one}
 use native.Mathlib.Nat.{not-suc-le-zero, le_of_suc-le-suc}
 use mathlib.Core.Path.{◌≡◌, refl, sym, ap, ap₂, ◌∙◌}
 use mathlib.Core.List.{List, [], ◌∷◌, zip_with}
-use mathlib.Core.Option.{Option, none, some, some-injective, none-ne-some}
+use mathlib.Core.Option.{none, some, some-injective, none-ne-some}
 use lib.ListN.{length, get_or, get_elem?, take, drop, length-take, length-drop}
 use lib.Seq.{get_or-take, get_or-drop}
 use Rattle.hgn.specs.Run.{Step}
 use Rattle.hgn.specs.Trace.{step_count, steps_of, step}
-use Rattle.network.specs.declared.waiting.Place.{Place}
 use Rattle.sheet_check.proofs.Lookup.{get_or_zip_with}
-use Rattle.trace_reader.specs.TraceRows.{row_at, step_of}
-use Rattle.trace_reader.specs.declared.reader.TraceRow.{TraceRow}
-use Rattle.trace_reader.specs.declared.reader.TraceRow.TheVariants as Rows
+use Rattle.trace_reader.specs.TraceRows.{row_at, steps_left}
+use Rattle.trace_reader.specs.declared.reader.Reader.{Reader}
 
 module _ {A : Type 0} where
   there : (l : List A) (i : ℕ) (d : A) → i < length l → get_elem? l i ≡ some (get_or l i d)
@@ -91,9 +89,15 @@ module _ (trace : List ℕ) (i : ℕ) where
   unfolding row_at
   row_none e = none_past (steps_of trace) i e
 
--- What the code tells of a row.
-pub row_step : {t : TraceRow} {o : Option Step} {move : ℕ} {place : Place} → step_of t ≡ o → t ≡ Rows.Step move place → o ≡ some (record { move = move; place = place.0 })
-row_step e f = sym e ∙ ap step_of f
+  -- From the row behind a step on there is one step fewer.
+  module _ (x : Step) (found : row_at trace i ≡ some x) where
+    one_fewer : suc (length (drop (i + 1) (steps_of trace))) ≡ length (drop i (steps_of trace))
+    one_fewer = sym (ap length (row_first x found))
 
-pub row_end : {t : TraceRow} {o : Option Step} → step_of t ≡ o → t ≡ Rows.End → o ≡ none
-row_end e f = sym e ∙ ap step_of f
+    pub row_inside : i < length (steps_of trace)
+    row_inside = omega (arith, one_fewer, length-drop i (steps_of trace))
+
+    pub fewer_left : {from to : Reader} → from.trace.now ≡ trace → from.row.0 ≡ i → to.trace ≡ from.trace → to.row.0 ≡ from.row.0 + 1
+        → length (steps_left to) < length (steps_left from)
+    unfolding steps_left
+    fewer_left {from} {to} held at same on = rw (same, held, on, at) (omega (arith, one_fewer))

@@ -1,12 +1,12 @@
-// A trace held open, and thin functions over it. Document 02, Req 03; document 01, "What shape each place takes". The work is `step_at`'s,
-// which takes a plain slice and a row. The thin functions hold the struct with the reference.
-ghost use Rattle.std.specs.Prelude.{◌≡◌, ◌+◌, ◌<◌, ◌^◌};
+// A trace held open, whose steps come one by one. Document 02, Req 03; document 01, "What shape each place takes".
+ghost use Rattle.std.specs.Prelude.{◌≡◌, ◌+◌, ◌<◌, ◌^◌, IfSome};
 ghost use Rattle.trace_reader.specs.TraceRows.{row_at, step_of};
 
 use network::waiting::Place;
 use sheet_check::check::Trace;
-use sheet_check::rows::{Row, word};
+use sheet_check::rows::Row;
 use sheet_check::sizes::TraceSizes;
+use step::moves::Step;
 
 // A trace, and the row, that is the step, which its reading has reached.
 #[derive(Clone, Copy)]
@@ -15,77 +15,50 @@ pub struct Reader<'a> {
     pub row: Row,
 }
 
-// What stands at a row of a trace: a step's move and place, or the trace's end.
-#[derive(Clone, Copy)]
-pub enum TraceRow {
-    Step(u16, Place),
-    End,
-}
-
-// A row of a trace that was read, and the row behind it.
-#[derive(Clone, Copy)]
-pub struct Onward {
-    pub step: TraceRow,
-    pub row: Row,
-}
-
-// What stands at a row of any words. Words that are too few for the steps they name end where the last place is missing.
-pub fn step_at(trace: &[u16], row: Row) -> TraceRow
-    ensures { step_of result ≡ row_at trace.now row.0 }
+// The step at a row of any words; none past the last. Words that are too few for the steps they name end where the last place is missing. A
+// trace's steps are few enough that the row behind each has a number.
+pub fn step_at(trace: &[u16], row: Row) -> Option<Step>
+    ensures reads { step_of result ≡ row_at trace.now row.0 }
+    ensures numbered { IfSome result (λ step. step.number ≡ row.0) }
+    ensures followed { IfSome result (λ step. row.0 + 1 < 2 ^ 16) }
 {
-    let sizes = TraceSizes::of(trace);
-    let steps = sizes.steps as usize;
-    let at = row.0 as usize;
-    if at < steps {
-        let mv = Trace::SIZES + at;
-        let place = Trace::SIZES + steps + at;
-        if place < trace.len() {
-            return TraceRow::Step(word(trace, mv), Place(word(trace, place)));
-        }
+    let steps = usize::from(TraceSizes::of(trace).steps);
+    let at = usize::from(row.0);
+    if at >= steps {
+        return None;
     }
-    TraceRow::End
+    let place = *trace.get(Trace::SIZES + steps + at)?;
+    Some(Step {
+        number: row.0,
+        mv: trace[Trace::SIZES + at],
+        place: Place(place),
+    })
 }
 
-// A trace is opened at its first step.
-pub fn open<'a>(trace: &'a [u16]) -> Reader<'a>
-    ensures { (result.trace ≡ trace.entry) × (result.row.0 ≡ 0) }
-{
-    Reader { trace, row: Row(0) }
+impl<'a> Reader<'a> {
+    // A trace is opened at its first step.
+    pub fn open(trace: &'a [u16]) -> Reader<'a>
+        ensures trace { result.trace ≡ trace.entry }
+        ensures row { result.row.0 ≡ 0 }
+    {
+        Reader { trace, row: Row(0) }
+    }
 }
 
-// The row that is reached.
-pub fn row<'a>(r: Reader<'a>) -> Row
-    ensures { result ≡ r.entry.row }
-{
-    r.row
-}
+// Each step of the trace from the row that is reached on.
+impl<'a> Iterator for Reader<'a> {
+    ghost use Rattle.std.specs.Iterator.{item_count};
+    ghost use Rattle.trace_reader.specs.TraceRows.{GivesStep, steps_left};
 
-// What stands at the row that is reached.
-pub fn read<'a>(r: Reader<'a>) -> TraceRow
-    ensures { step_of result ≡ row_at r.entry.trace.now r.entry.row.0 }
-{
-    step_at(r.trace, r.row)
-}
+    type Item = Step;
 
-// One row on, in the same trace.
-pub fn advance<'s, 'a>(r: &'s mut Reader<'a>)
-    requires { r.old.row.0 + 1 < 2 ^ 16 }
-    ensures { (r.new.trace ≡ r.old.trace) × (r.new.row.0 ≡ r.old.row.0 + 1) }
-{
-    r.row.0 = r.row.0 + 1;
-}
+    ghost next_gives = { GivesStep };
 
-// What stands at a row of a trace, and the row behind it: a reader is held from the one to the other. Its parameters are plain, so its
-// callers hold no reader.
-pub fn next(trace: &[u16], at: Row) -> Onward
-    requires { at.0 + 1 < 2 ^ 16 }
-    ensures { (step_of result.step ≡ row_at trace.now at.0) × (result.row.0 ≡ at.0 + 1) }
-{
-    let mut reader = Reader { trace, row: at };
-    let step = read(reader);
-    advance(&mut reader);
-    Onward {
-        step,
-        row: row(reader),
+    ghost remaining = { item_count steps_left };
+
+    fn next(&mut self) -> Option<Step> {
+        let step = step_at(self.trace, self.row)?;
+        self.row.0 += 1;
+        Some(step)
     }
 }

@@ -1,9 +1,12 @@
--- Assumes nothing.
-use Rattle.listing.proofs.Sources.{method_order, method_step}
+-- By its source. Assumes nothing.
+use mathlib.Core.Path.{refl}
+use Rattle.hgn.specs.Network.{method_number}
 use Rattle.listing.proofs.line.method_of.Goals as goal
 
-pub returns-then-name : goal.returns-then-name
-returns-then-name c = search method_order
+pub returns-in-Some : goal.returns-in-Some
+unfolding method_number
+returns-in-Some c = rw c.in-Some.is refl
 
-pub returns : goal.returns
-returns c = search method_step
+pub returns-in-None : goal.returns-in-None
+unfolding method_number
+returns-in-None c = rw c.in-None.is refl
