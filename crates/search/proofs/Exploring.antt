@@ -1,11 +1,12 @@
 -- The loops over places and moves, step by step. Assumes nothing.
-use Prim.Native.Nat.{ℕ, suc, ◌+◌, ◌-◌, ◌<◌, ◌≤◌}
+use Prim.Native.Nat.{ℕ, suc, ◌+◌, ◌-◌, ◌<◌, ◌≤◌, max}
+use Rattle.std.specs.Prelude.{Ok, Err}
 use native.Mathlib.Omega.{arith}
 use native.Mathlib.Numerals.{add-one}
 use mathlib.Core.Path.{◌≡◌, refl, ap, sym, subst, ◌∙◌}
 use mathlib.Core.Bool.{Bool, true, false, not, cond}
 use mathlib.Core.Logic.{inl, inr, ⊎_elim}
-use mathlib.Core.List.{List, [], ◌∷◌, zip_with}
+use mathlib.Core.List.{List, [], ◌∷◌}
 use mathlib.Core.Option.{Option, none, some, map, or_else}
 use lib.Dec.{eqb, leb}
 use lib.ListN.{length}
@@ -33,7 +34,8 @@ use Rattle.search.specs.Founds.{steps_from, Covers, Finds}
 use Rattle.search_pruning.specs.Tests.{nth_move, move_number, step_of, crowded}
 use Rattle.search.specs.Trials.{tried, Suffices, Open}
 use Rattle.search.specs.declared.explore.Node.{Node}
-use Rattle.search.specs.declared.found.Found.{Found}
+use Rattle.search.specs.declared.found.Steps.{Steps}
+use Rattle.search.specs.declared.found.Exhausted.{Exhausted}
 use Rattle.search.proofs.Trying.{crowded_out, open_few, open_kept, open_none}
 
 -- Which lengths are covered.
@@ -41,13 +43,29 @@ module _ {left k : ℕ} where
   pub covers_long : (exhausted : ℕ) → Covers exhausted left k → left ≤ k
   covers_long exhausted = ⊎_elim (λ e. omega arith) (λ h. h.1)
 
-  -- Where no more branches ran out of steps, all lengths that another search covers.
-  pub covers_all : (exhausted : ℕ) {less : ℕ} → less ≤ exhausted → Covers exhausted left k → Covers less left k
-  covers_all exhausted e = ⊎_elim (λ h. inl h) (λ h. let z = h.0 in inr (omega arith, h.1))
-
   -- Where a branch ran out of steps, only its own.
   pub covers_own : {exhausted : ℕ} → 0 < exhausted → Covers exhausted left k → k ≡ left
   covers_own e = ⊎_elim (λ h. h) (λ h. let z = h.0 in absurd (omega arith))
+
+  covers_left : (a b : ℕ) → Covers (max a b) left k → Covers a left k
+  covers_left a b = ⊎_elim (λ h. inl h) (λ h. let z = h.0 in inr (omega arith, h.1))
+
+  covers_right : (a b : ℕ) → Covers (max a b) left k → Covers b left k
+  covers_right a b = ⊎_elim (λ h. inl h) (λ h. let z = h.0 in inr (omega arith, h.1))
+
+  -- After a turn of a loop each covered length was covered before, and nothing is found with it: where a search told of more branches,
+  pub covers_more : {B : Type 0} {found : ℕ → Option B} {before after others m : Exhausted} → after ≡ m → m.0 ≡ max before.0 others.0
+      → ((k : ℕ) → Covers others.0 left k → found k ≡ none) → Covers after.0 left k → Covers before.0 left k × (found k ≡ none)
+  covers_more e is none_with v =
+      let u = subst (λ (n : ℕ). Covers n left k) (ap (λ (x : Exhausted). x.0) e ∙ is) v in
+      (covers_left _ _ u, none_with k (covers_right _ _ u))
+
+  -- and where their number stays.
+  pub covers_same : {B : Type 0} {found : Option B} {before after : Exhausted} → after ≡ before → (Covers before.0 left k → found ≡ none)
+      → Covers after.0 left k → Covers before.0 left k × (found ≡ none)
+  covers_same e none_with v =
+      let u = subst (λ (x : Exhausted). Covers x.0 left k) e v in
+      (u, none_with u)
 
 -- A test that was denied.
 pub not_so : (b : Bool) → not b ≡ true → b ≡ false
@@ -67,14 +85,6 @@ cannot_tell false c e f = absurd (false_not_true _ f e)
 -- What is found with a step from `P`, where `k` steps may be taken in all. The step before was `node`'s last, from `P₀`.
 abbrev pub found_by : List ℕ → Problem → Problem → Node → ℕ → Step → Option (List Step)
 found_by shop P₀ P node k = tried (k - 1) (rules_of shop) P₀ (step_of node.last) node.number P
-
--- What a search told.
-module _ {search : ℕ → Option (List Step)} {n left : ℕ} (r : Found) where
-  pub finds_some : r.found ≡ true → search left ≡ some (steps_from n left r) → Finds search n left r
-  finds_some h e = record { found = λ q. e; nothing = λ q. absurd (false_not_true _ q h) }
-
-  pub finds_none : r.found ≡ false → ((k : ℕ) → Covers r.exhausted left k → search k ≡ none) → Finds search n left r
-  finds_none h e = record { found = λ q. absurd (false_not_true _ h q); nothing = λ q. e }
 
 module _ (f : Step → Option (List Step)) (d : Domain) where
   -- Past a move by which nothing is found.
@@ -142,9 +152,9 @@ moves_done shop passes f p i all e h =
     moves_end f (domain shop) p i (omega (arith, moves_count (domain shop), (shop_counts shop passes).0, (shop_counts shop passes).1))
 
 -- The place routine's ends: with no step left, a trace is found where nothing waits.
-pub ends_found : (r : Rules) (P₀ : Problem) (y : Step) (n : ℕ) (P : Problem) (f : Found) → length P.waiting ≡ 0
+pub ends_found : (r : Rules) (P₀ : Problem) (y : Step) (n : ℕ) (P : Problem) (f : Steps) → length P.waiting ≡ 0
     → pruned_of 0 r P₀ y n P ≡ some (steps_from n 0 f)
-unfolding pruned_of no_steps steps_from zip_with
+unfolding pruned_of no_steps steps_from
 ends_found r P₀ y n P f e = go P.waiting e
   where
     go : (w : List Waiting) → length w ≡ 0 → no_steps w ≡ some []
@@ -174,38 +184,33 @@ module _ {shop order table : List ℕ} (ix : Indexed shop order table) {P₀ : P
   on_number : (k : ℕ) → onward k ≡ pruned_of k (rules_of shop) P (step_of x) (suc n) P'
   on_number k = ap {B = Option (List Step)} (λ (i : ℕ). pruned_of k (rules_of shop) P (step_of x) i P') (add-one n)
 
-  pub follow_crowded : crowded (left - 1) (length P.waiting) (known_of x.mv) ≡ true → (r : Found) → r.found ≡ false → 0 < r.exhausted → Finds by_step n left r
-  follow_crowded e r f c =
-      finds_none r f λ k v.
-      let z = covers_own c v in
-      ap {B = Option (List Step)} by_step z ∙ crowded_out ix P₀ y P x o.taken.taking.known (left - 1) n e
+  pub follow_crowded : crowded (left - 1) (length P.waiting) (known_of x.mv) ≡ true → (e : Exhausted) → 0 < e.0 → Finds by_step n left (Err e)
+  follow_crowded c e few k v =
+      let z = covers_own few v in
+      ap {B = Option (List Step)} by_step z ∙ crowded_out ix P₀ y P x o.taken.taking.known (left - 1) n c
 
-  pub follow_short : Suffices shop P' (left - 1) false → (r : Found) → r.found ≡ false → 0 < r.exhausted → Finds by_step n left r
-  follow_short e r f c =
-      finds_none r f λ k v.
-      let z = covers_own c v in
+  pub follow_short : Suffices shop P' (left - 1) false → (e : Exhausted) → 0 < e.0 → Finds by_step n left (Err e)
+  follow_short s e few k v =
+      let z = covers_own few v in
       ap {B = Option (List Step)} by_step z
-      ∙ ⊎_elim (λ few. open_few ix P₀ y P x o.taken.taking.known o (left - 1) n few)
-      (λ none_here. open_none ix P₀ y P x o.taken.taking.known o (left - 1) n (none_here P (step_of x) (suc n))) e
+      ∙ ⊎_elim (λ short. open_few ix P₀ y P x o.taken.taking.known o (left - 1) n short)
+      (λ none_here. open_none ix P₀ y P x o.taken.taking.known o (left - 1) n (none_here P (step_of x) (suc n))) s
 
-  module _ (r : Found) (finds : Finds onward (n + 1) (left - 1) r) where
-    pub follow_none : r.found ≡ false → Finds by_step n left r
-    follow_none f =
-        finds_none r f λ k v.
-        open_none ix P₀ y P x o.taken.taking.known o (k - 1) n (sym (on_number (k - 1)) ∙ finds.nothing f (k - 1) (down k v))
-      where
-        down : (k : ℕ) → Covers r.exhausted left k → Covers r.exhausted (left - 1) (k - 1)
-        down k = ⊎_elim (λ e. inl (omega arith)) (λ v. inr (v.0, let w = v.1 in omega arith))
+  pub follow_none : (e : Exhausted) → Finds onward (n + 1) (left - 1) (Err e) → Finds by_step n left (Err e)
+  follow_none e nothing k v =
+      open_none ix P₀ y P x o.taken.taking.known o (k - 1) n (sym (on_number (k - 1)) ∙ nothing (k - 1) (down k v))
+    where
+      down : (k : ℕ) → Covers e.0 left k → Covers e.0 (left - 1) (k - 1)
+      down k = ⊎_elim (λ q. inl (omega arith)) (λ v. inr (v.0, let w = v.1 in omega arith))
 
-    pub follow_some : r.found ≡ true → too_few_left (left - 1) P' ≡ false → (w : Found) {move : ℕ} → move ≡ move_number x.mv
-        → (w.found ≡ r.found) × ((k : ℕ) → steps_from n (suc k) w ≡ step move x.place.0 ∷ steps_from (n + 1) k r) → Finds by_step n left w
-    follow_some f few w e is =
-        let z : suc (left - 1) ≡ left = omega arith in
-        finds_some w (is.0 ∙ f)
-        (open_kept ix P₀ y P x o.taken.taking.known o (left - 1) n few
-        ∙ ap {B = Option (List Step)} (map (λ xs. step_of x ∷ xs)) (sym (on_number (left - 1)) ∙ finds.found f)
-        ∙ ap {B = Option (List Step)} (λ (j : ℕ). some (step j x.place.0 ∷ steps_from (n + 1) (left - 1) r)) (sym e)
-        ∙ ap {B = Option (List Step)} some (sym (is.1 (left - 1)) ∙ ap (λ (j : ℕ). steps_from n j w) z))
+  pub follow_some : (s : Steps) → Finds onward (n + 1) (left - 1) (Ok s) → too_few_left (left - 1) P' ≡ false → (w : Steps) {move : ℕ} → move ≡ move_number x.mv
+      → ((k : ℕ) → steps_from n (suc k) w ≡ step move x.place.0 ∷ steps_from (n + 1) k s) → Finds by_step n left (Ok w)
+  follow_some s found few w e is =
+      let z : suc (left - 1) ≡ left = omega arith in
+      open_kept ix P₀ y P x o.taken.taking.known o (left - 1) n few
+      ∙ ap {B = Option (List Step)} (map (λ xs. step_of x ∷ xs)) (sym (on_number (left - 1)) ∙ found)
+      ∙ ap {B = Option (List Step)} (λ (j : ℕ). some (step j x.place.0 ∷ steps_from (n + 1) (left - 1) s)) (sym e)
+      ∙ ap {B = Option (List Step)} some (sym (is (left - 1)) ∙ ap (λ (j : ℕ). steps_from n j w) z)
 
 -- The place routine, with `left` steps to go.
 module _ (r : Rules) (P₀ : Problem) (y : Step) (left n : ℕ) (P : Problem) where

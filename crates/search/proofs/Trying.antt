@@ -1,9 +1,9 @@
 -- What is found with a step, by the code's tests. Assumes nothing.
 use Prim.Native.Nat.{ℕ, suc, ◌+◌, ◌<◌}
 use native.Mathlib.Omega.{arith}
-use mathlib.Core.Path.{◌≡◌, refl, ap, sym, ◌∙◌}
-use mathlib.Core.Bool.{Bool, true, false, or-true}
-use mathlib.Core.Logic.{inr, ⊎_elim}
+use mathlib.Core.Path.{◌≡◌, refl, ap, sym, subst, ◌∙◌}
+use mathlib.Core.Bool.{Bool, true, false, not, or-true}
+use mathlib.Core.Logic.{inl, inr, ⊎_elim}
 use mathlib.Core.List.{List, ◌∷◌}
 use mathlib.Core.Option.{Option, none, map}
 use lib.Dec.{leb}
@@ -20,10 +20,12 @@ use Rattle.hgn.specs.Replay.{rules_of}
 use Rattle.hgn.proofs.Run.Steps.{Moved, by_release, by_action, by_method, took}
 use Rattle.hgn.proofs.Search.Waits.{one_released, none_lost}
 use Rattle.step.specs.Failures.{failure_of}
+use Rattle.std.specs.Prelude.{Result, Ok, Err, is_ok}
 use Rattle.step.specs.declared.failure.Failure as Code
 use Rattle.sheet_index.specs.Index.{span_rows}
 use Rattle.sheet_index.specs.Tables.{Indexed}
 use Rattle.network.specs.Entries.{waiting_of}
+use Rattle.network.specs.declared.goals.Goals.{Goals}
 use Rattle.network.specs.declared.waiting.Entry.{Entry}
 use Rattle.network.specs.Goals.{count_in, entry_in, list_in}
 use Rattle.network.proofs.WaitingGoals.{list_length, list_at}
@@ -32,12 +34,11 @@ use Rattle.step.specs.Deciding.{Faces, Answers}
 use Rattle.step.specs.Taking.{problem_with}
 use Rattle.step.specs.declared.moves.Choice.{Choice}
 use Rattle.step.proofs.Bodies.{own_refuses, own_takes, own_room}
-use Rattle.step.proofs.Decided.{own_told}
 use Rattle.search_theory.specs.Rules.{has_no_effect, lower_too, too_few_left, commutes_with_last, left_out}
 use Rattle.search_theory.specs.Pruned.{behind, pruned_of}
 use Rattle.search_pruning.specs.Tests.{move_number, step_of, crowded}
 use Rattle.search_pruning.proofs.Reading.{number_read}
-use Rattle.search.specs.Trials.{tried, Suffices, Effective, NotEffective, Open}
+use Rattle.search.specs.Trials.{tried, Suffices, Effective, NotEffective, MayTake, Open, Opens}
 
 -- A move that was crowded leaves too few steps.
 crowded_after : {r : Rules} {n : ℕ} {P : Problem} {p : ℕ} (left : ℕ) {m : Move} {deed : Deed} {P' : Problem} → p < length P.waiting → Moved r n P p m deed P'
@@ -150,6 +151,16 @@ module _ {shop order table : List ℕ} (ix : Indexed shop order table) (P₀ : P
       out (rules_of shop) k P₀ y n P (step_of x) λ deed P' t.
       lower_out (rules_of shop) k P₀ y n P (step_of x) P' (ap (lower_too (rules_of shop) P.waiting x.place.0) reads ∙ h)
 
+  -- The step is left out, however it is told.
+  pub closed_if : {v : Bool} → v ≡ false → ((k n : ℕ) → Tried k n none) → Opens shop P₀ y P x v
+  closed_if e h = subst (Opens shop P₀ y P x) (sym e) h
+
+  -- The last reason decides.
+  pub open_if : Effective shop P x → commutes_with_last (domain shop) P₀ y (step_of x) ≡ false → (b : Bool)
+      → b ≡ lower_too (rules_of shop) P.waiting x.place.0 (known_of x.mv) → Opens shop P₀ y P x (not b)
+  open_if e f true q = closed_lower (sym q)
+  open_if e f false q = record { taken = e; lowest = sym q; in_order = f }
+
   -- Nothing is found with so many steps, where more goals wait than that.
   pub crowded_out : (k n : ℕ) → crowded k (length P.waiting) (known_of x.mv) ≡ true → Tried k n none
   crowded_out k n c = crowded_none (rules_of shop) k P₀ y n P (step_of x) (ap (crowded k (length P.waiting)) reads ∙ c)
@@ -187,10 +198,10 @@ suffices_least shop P least left few none_below = go (leb least left) refl
     go false e = inr λ P₀ y n. none_below left (leb-false least left e) P₀ y n
 
 -- A free goal's step, by what its own questions answer.
-module _ {shop order table : List ℕ} (ix : Indexed shop order table) (s : State) (ws : List ℕ) (x : Choice) (inside : x.place.0 < count_in ws)
+module _ {shop order table : List ℕ} (ix : Indexed shop order table) (s : State) (ws : Goals) (x : Choice) (inside : x.place.0 < count_in ws)
     (known : Known (action_count shop) (method_count shop) x.mv)
     (is_free : free (list_in shop order ws) (goal_at (list_in shop order ws) x.place.0) ≡ true) {goal : Entry} (here : goal ≡ entry_in ws x.place.0)
-    {count : ℕ} (counts : count ≡ count_in ws) {q : Code.Failure} (said : Answers shop order s goal.rows (record { count = count; limit = most_waiting }) (known_of x.mv) q) where
+    {count : ℕ} (counts : count ≡ count_in ws) where
   abbrev P : Problem
   P = problem_with shop order s ws
 
@@ -207,25 +218,40 @@ module _ {shop order table : List ℕ} (ix : Indexed shop order table) (s : Stat
   below : x.place.0 < length P.waiting
   below = rw (list_length shop order ws) inside
 
-  pub not_taken : (q.refusal.number ≡ 0 → ⊥) → NotEffective shop P x
-  not_taken z =
+  -- What the questions answer.
+  abbrev Said : Result (Unit {0}) Code.Failure → Type 0
+  Said = Answers shop order s goal.rows (record { count = count; limit = most_waiting }) (known_of x.mv)
+
+  not_taken : (q : Code.Failure) → Said (Err q) → NotEffective shop P x
+  not_taken q said =
       inr λ n. (
         failure_of q,
         own_refuses (rules_of shop) n P (move_number x.mv) x.place.0 below x.mv (number_read ix x.mv known) is_free (failure_of q)
-            ((own_told (rules_of shop) n x.place.0 P x.mv (failure_of q) (said n P x.place.0 faces)).1 z).0,
+            (sym (said n P x.place.0 faces)),
       )
 
-  pub is_taken : q.refusal.number ≡ 0 → has_no_effect (domain shop) s (known_of x.mv) ≡ false → Effective shop P x
-  is_taken z i = record {
+  is_taken : (u : Unit {0}) → Said (Ok u) → has_no_effect (domain shop) s (known_of x.mv) ≡ false → Effective shop P x
+  is_taken u said i = record {
     taking = record {
       inside = below;
       known = known;
       fits = rw (list_length shop order ws ∙ sym counts)
           (own_room shop order s goal.rows count most_waiting 0 x.place.0 P faces (omega arith) x.mv
-          ((own_told (rules_of shop) 0 x.place.0 P x.mv (failure_of q) (said 0 P x.place.0 faces)).0 z));
+          (sym (said 0 P x.place.0 faces)));
       comes = λ n.
-          own_takes (rules_of shop) n P (move_number x.mv) x.place.0 below x.mv (number_read ix x.mv known) is_free
-          ((own_told (rules_of shop) n x.place.0 P x.mv (failure_of q) (said n P x.place.0 faces)).0 z);
+          own_takes (rules_of shop) n P (move_number x.mv) x.place.0 below x.mv (number_read ix x.mv known) is_free (sym (said n P x.place.0 faces));
     };
     changes = i;
   }
+
+  -- Refused.
+  pub taken_never : (r : Result (Unit {0}) Code.Failure) → Said r → is_ok r ≡ false → {v : Bool} → v ≡ false → MayTake shop P x v
+  taken_never (Ok u) said z e = absurd (cc)
+  taken_never (Err q) said z e = subst (MayTake shop P x) (sym e) (not_taken q said)
+
+  -- Not refused: whether the step has an effect decides.
+  pub taken_if : (r : Result (Unit {0}) Code.Failure) → Said r → is_ok r ≡ true → (b : Bool) → b ≡ has_no_effect (domain shop) s (known_of x.mv)
+      → MayTake shop P x (not b)
+  taken_if (Err q) said z b e = absurd (cc)
+  taken_if (Ok u) said z true e = inl (sym e)
+  taken_if (Ok u) said z false e = is_taken u said (sym e)

@@ -1,23 +1,29 @@
 -- The steps that the code has found, and the call's answer, as the definitions have them. Document 01, "Questions".
-use Rattle.std.specs.Prelude.{ℕ, ◌+◌, ◌≤◌, ◌≡◌, true, false, cond, ◌⊎◌, take, drop}
-use mathlib.Core.List.{List, ◌∷◌, ◌++◌, zip_with}
+use Rattle.std.specs.Prelude.{ℕ, ◌≤◌, ◌≡◌, ◌⊎◌, take, drop, Result, Ok, Err}
+use Rattle.std.specs.Prelude as Std
+use mathlib.Core.List.{List, map}
 use Rattle.std.proofs.Math.Option.{Option, none, some}
 use Rattle.hgn.specs.Run.{Step}
 use Rattle.hgn.specs.Trace.{step}
 use Rattle.hgn.specs.Search.{Searched}
-use Rattle.sheet_rows.specs.Refusals.{lent_of}
+use Rattle.sheet_rows.specs.Refusals.{found_of}
 use Rattle.sheet_rows.specs.declared.refusal.Refusal.{Refusal}
-use Rattle.search.specs.declared.found.Found.{Found}
+use Rattle.search.specs.declared.found.Step as Code
+use Rattle.search.specs.declared.found.Steps.{Steps}
+use Rattle.search.specs.declared.found.Exhausted.{Exhausted}
 use Rattle.search.specs.declared.shortest.Shortest.{Shortest}
 
--- The answer and the room at exit.
-abbrev pub searched_of : Refusal → List ℕ → Searched
-searched_of r exit = lent_of r exit
+-- The answer, of a trace found 0 and its length, and the room at exit.
+abbrev pub searched_of : Result ℕ Refusal → List ℕ → Searched
+searched_of r exit = record { refusal = found_of r; room = exit }
+
+-- A step that the code has found, as the definitions have it.
+abbrev pub step_found : Code.Step → Step
+step_found s = step s.mv s.place.0
 
 -- `k` steps, from step `n` on.
-unfoldable pub steps_from : ℕ → ℕ → Found → List Step
-unfolding zip_with
-steps_from n k f = zip_with step (take k (drop n f.moves)) (take k (drop n f.places))
+unfoldable pub steps_from : ℕ → ℕ → Steps → List Step
+steps_from n k s = map step_found (take k (drop n s.listed))
 
 -- For which lengths a search of `left` steps that found nothing tells that there is nothing: for its own, and for every longer one where
 -- no branch ran out of steps.
@@ -25,17 +31,14 @@ abbrev pub Covers : ℕ → ℕ → ℕ → Type 0
 Covers exhausted left k = (k ≡ left) ⊎ ((exhausted ≡ 0) × (left ≤ k))
 
 -- What a search told, from step `n` on with `left` steps: `search k` is what there is to find with k.
-pub record Finds (search : ℕ → Option (List Step)) (n left : ℕ) (r : Found) : Type 0 where
-  pub found : r.found ≡ true → search left ≡ some (steps_from n left r)
-  pub nothing : r.found ≡ false → (k : ℕ) → Covers r.exhausted left k → search k ≡ none
+abbrev pub Finds : (ℕ → Option (List Step)) → ℕ → ℕ → Result Steps Exhausted → Type 0
+Finds search n left (Ok s) = search left ≡ some (steps_from n left s)
+Finds search n left (Err e) = (k : ℕ) → Covers e.0 left k → search k ≡ none
 
-abbrev pub found_of : ℕ → ℕ → Found → Option (List Step)
-found_of n k f = cond f.found (some (steps_from n k f)) none
+-- The steps of a trace found, all that it has.
+abbrev pub steps_of : Shortest → List Step
+steps_of r = steps_from 0 r.length r.steps
 
-abbrev pub shortest_of : Shortest → Option (List Step)
-shortest_of r = found_of 0 r.length r.steps
-
--- The room with the trace in its first words.
-abbrev pub trace_of : Shortest → List ℕ → List ℕ
-trace_of r room =
-    r.length ∷ take r.length r.steps.moves ++ take r.length r.steps.places ++ drop (1 + (r.length + r.length)) room
+abbrev pub shortest_of : Std.Option Shortest → Option (List Step)
+shortest_of Std.None = none
+shortest_of (Std.Some r) = some (steps_of r)

@@ -2,40 +2,38 @@
 use Rattle.std.specs.Prelude.{ℕ, suc, ◌+◌, ◌<◌, ◌≤◌, ◌≡◌, Bool, true, false, ◌⊎◌, List}
 use Rattle.std.proofs.Math.Option.{Option, none}
 use Rattle.hgn.specs.Questions.{Failure}
-use Rattle.hgn.specs.State.{State}
 use Rattle.hgn.specs.Network.{most_waiting}
 use Rattle.hgn.specs.Run.{Step, Problem, Rules, refused, stepped}
 use Rattle.hgn.specs.Shop.{domain, action_count, method_count}
 use Rattle.hgn.specs.Search.{most_depth}
 use Rattle.hgn.specs.Replay.{rules_of}
-use Rattle.sheet_index.specs.Tables.{Indexed}
 use Rattle.network.specs.Goals.{count_in}
 use Rattle.step.specs.Moves.{Known, known_of}
 use Rattle.step.specs.Deciding.{StepAllowed}
-use Rattle.step.specs.Taking.{ValidGoals, Going}
+use Rattle.step.specs.Taking.{problem_with, ValidGoals, Going}
 use Rattle.step.specs.declared.moves.Move.TheVariants.{Release}
 use Rattle.step.specs.declared.moves.Choice.{Choice}
 use Rattle.search_theory.specs.Rules.{has_no_effect, lower_too, too_few_left, commutes_with_last}
 use Rattle.search_theory.specs.Pruned.{behind, pruned_of}
-use Rattle.search_bound.specs.Tables.{OnlyAchievers}
 use Rattle.search_pruning.specs.Tests.{move_number, step_of}
 use Rattle.search.specs.declared.explore.Node.{Node}
+use Rattle.search.specs.declared.lent.Given.{Given}
+use Rattle.search.specs.declared.lent.Moment.{Moment}
 
--- What is lent to a search: where the parts of the sheets stand, and which action alone achieves a literal.
-pub record Lent (shop order tables table : List ℕ) : Type 0 where
-  pub indexed : Indexed shop order tables
-  pub achievers : OnlyAchievers (domain shop) table
+-- What is lent at a moment, as a problem of the definitions.
+abbrev pub problem_at : Given → Moment → Problem
+problem_at given m = problem_with given.shop.now given.order.now m.atoms.now m.goals.now
 
 -- Where a search of so many steps begins: a release at place 0 stands for the step before it.
 abbrev pub first_node : ℕ → Node
-first_node left = record { last = record { mv = Release; place = record { 0 = 0 } }; left = left; number = 0; exhausted = 0 }
+first_node left = record { last = record { mv = Release; place = record { 0 = 0 } }; left = left; number = 0; exhausted = record { 0 = 0 } }
 
--- What a search asks of state and goals, `s` and `ws`, where it stands, and of the goals `ws₀` from which the last step was taken.
-pub record Stands (shop order : List ℕ) (s : State) (ws ws₀ : List ℕ) (node : Node) : Type 0 where
-  pub going : Going shop order node.number s ws
-  pub before : ValidGoals shop order ws₀
-  pub last_inside : 0 < count_in ws → node.last.place.0 < count_in ws₀
-  pub last_known : Known (action_count shop) (method_count shop) node.last.mv
+-- What a search asks of a moment `m`, where it stands, and of the goals of the moment `m₀` from which the last step was taken.
+pub record Stands (given : Given) (m m₀ : Moment) (node : Node) : Type 0 where
+  pub going : Going given.shop.now given.order.now node.number m.atoms.now m.goals.now
+  pub before : ValidGoals given.shop.now given.order.now m₀.goals.now
+  pub last_inside : 0 < count_in m.goals.now → node.last.place.0 < count_in m₀.goals.now
+  pub last_known : Known (action_count given.shop.now) (method_count given.shop.now) node.last.mv
   pub fits : node.number + node.left ≤ most_depth
 
 -- What is found with step `x` from `P`, with `k` steps behind it. The step before was `y`, from `P₀`.

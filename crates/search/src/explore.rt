@@ -6,21 +6,18 @@ ghost use Rattle.hgn.specs.Shop.{domain};
 ghost use Rattle.hgn.specs.Run.{Problem, Step};
 ghost use Rattle.hgn.specs.Search.{most_depth};
 ghost use Rattle.hgn.specs.Replay.{rules_of};
-ghost use Rattle.network.specs.Goals.{count_in, list_in};
-ghost use Rattle.step.specs.Taking.{problem_with, Going};
+ghost use Rattle.network.specs.Goals.{count_in};
+ghost use Rattle.step.specs.Taking.{Going};
 ghost use Rattle.search_theory.specs.Pruned.{pruned_of, moves_from};
 ghost use Rattle.search_pruning.specs.Tests.{step_of};
 ghost use Rattle.search.specs.Founds.{Finds};
-ghost use Rattle.search.specs.Trials.{first_node, Lent, Stands, Open, tried};
+ghost use Rattle.search.specs.Trials.{first_node, problem_at, Stands, Open, tried};
 
-use crate::found::Found;
+use crate::found::{Exhausted, Steps};
+use crate::lent::{Given, Moment};
 use crate::trial;
-use network::goals;
-use network::goals::Goals;
 use network::waiting::Place;
-use search_bound::achievers;
 use search_pruning::{moves, rules};
-use sheet_check::check::Shop;
 use sheet_check::sizes::ShopSizes;
 use step::moves::{Choice, Move};
 use step::taking;
@@ -32,7 +29,7 @@ pub struct Node {
     pub last: Choice,
     pub left: u16,
     pub number: u16,
-    pub exhausted: u16,
+    pub exhausted: Exhausted,
 }
 
 impl Node {
@@ -45,200 +42,123 @@ impl Node {
                 mv: Move::Release,
                 place: Place(0),
             },
-            left: left,
+            left,
             number: 0,
-            exhausted: 0,
+            exhausted: Exhausted(0),
         }
     }
 }
 
-// The first trace of so many steps from a state and its goals on, none of its steps left out. The last step was taken from the state and
-// the goals `before`.
+// The first trace of so many steps from a moment on, none of its steps left out. The last step was taken at the moment `before`.
 #[cycle(follow_moves_places)]
-pub fn places<'a>(
-    shop: &'a [u16],
-    order: &'a [u16],
-    tables: &[u16],
-    table: &[u16; achievers::WORDS],
-    atoms: &[bool; Shop::MOST_ATOMS as usize],
-    goals: &[u16; Goals::WORDS],
-    before_atoms: &[bool; Shop::MOST_ATOMS as usize],
-    before_goals: &[u16; Goals::WORDS],
+pub fn places(
+    given: &Given<'_>,
+    here: Moment<'_>,
+    before: Moment<'_>,
     node: Node,
-) -> Found
-    requires { Lent shop.now order.now tables.now table.now × Stands shop.now order.now atoms.now goals.now before_goals.now node }
-    ensures { Finds (λ k. pruned_of k (rules_of shop.now)
-        (problem_with shop.now order.now before_atoms.now before_goals.now) (step_of node.last) node.number
-        (problem_with shop.now order.now atoms.now goals.now)) node.number node.left result }
+) -> Result<Steps, Exhausted>
+    requires { Stands given.now here before node }
+    ensures { Finds (λ k. pruned_of k (rules_of given.now.shop.now) (problem_at given.now before.entry) (step_of node.last) node.number
+        (problem_at given.now here.entry)) node.number node.left result }
 {
-    let count = goals::count_of(goals);
-    let left = node.left;
-    if left == 0 {
+    let count = here.goals.len();
+    if node.left == 0 {
         if count == 0 {
-            return Found::end();
+            return Ok(Steps::NONE);
         }
-        return Found::run_out(node.exhausted);
+        return Err(node.exhausted.one_more());
     }
-    let last = node.last;
     let mut exhausted = node.exhausted;
-    let mut i: u16 = 0;
-    while i < count {
+    for i in 0..count {
         let place = Place(i);
-        i += 1;
-        if goals::is_free(goals, place) {
-            let here = Node {
-                last: last,
-                left: left,
-                number: node.number,
-                exhausted: exhausted,
-            };
-            let r = moves(
-                shop,
-                order,
-                tables,
-                table,
-                atoms,
-                goals,
-                before_atoms,
-                before_goals,
-                here,
-                place,
-            );
-            if r.found {
-                return r;
-            }
-            if exhausted < r.exhausted {
-                exhausted = r.exhausted;
+        if here.goals.is_free(place) {
+            match moves(given, here, before, Node { exhausted, ..node }, place) {
+                Ok(steps) => return Ok(steps),
+                Err(others) => exhausted = exhausted.max(others),
             }
         }
     }
-    Found::none(exhausted)
+    Err(exhausted)
 }
 
 // The first trace of so many steps whose first is taken at this free goal, none of its steps left out.
 #[cycle(follow_moves_places)]
-fn moves<'a>(
-    shop: &'a [u16],
-    order: &'a [u16],
-    tables: &[u16],
-    table: &[u16; achievers::WORDS],
-    atoms: &[bool; Shop::MOST_ATOMS as usize],
-    goals: &[u16; Goals::WORDS],
-    before_atoms: &[bool; Shop::MOST_ATOMS as usize],
-    before_goals: &[u16; Goals::WORDS],
+fn moves(
+    given: &Given<'_>,
+    here: Moment<'_>,
+    before: Moment<'_>,
     node: Node,
     place: Place,
-) -> Found
-    requires lent { Lent shop.now order.now tables.now table.now × Stands shop.now order.now atoms.now goals.now before_goals.now node × (1 ≤ node.left) }
-    requires place_bound { (place.0 < count_in goals.now) × (freeIn (list_in shop.now order.now goals.now) (goal_at (list_in shop.now order.now goals.now) place.0) ≡ true) }
-    ensures { Finds (λ k. moves_from (tried (k - 1) (rules_of shop.now)
-        (problem_with shop.now order.now before_atoms.now before_goals.now) (step_of node.last) node.number
-        (problem_with shop.now order.now atoms.now goals.now)) (domain shop.now) place.0 0)
+) -> Result<Steps, Exhausted>
+    requires stands { Stands given.now here before node × (1 ≤ node.left) }
+    requires place_bound { (place.0 < count_in here.goals.now) × (freeIn (problem_at given.now here).waiting (goal_at (problem_at given.now here).waiting place.0) ≡ true) }
+    ensures { Finds (λ k. moves_from (tried (k - 1) (rules_of given.now.shop.now) (problem_at given.now before.entry) (step_of node.last) node.number
+        (problem_at given.now here.entry)) (domain given.now.shop.now) place.0 0)
         node.number node.left result }
 {
-    let sizes = ShopSizes::of(shop);
+    let sizes = ShopSizes::of(given.shop);
     let all = sizes.actions + sizes.methods;
-    let count = goals::count_of(goals);
-    let last = node.last;
-    let left = node.left;
+    let count = here.goals.len();
     let mut exhausted = node.exhausted;
-    let mut i: u16 = 0;
-    while i <= all {
+    for i in 0..=all {
         let mv = moves::nth(i, sizes.actions);
-        i += 1;
-        let choice = Choice {
-            mv: mv,
-            place: place,
-        };
-        if trial::can_tell(exhausted, left - 1, count, mv) {
-            if trial::is_open(
-                shop,
-                order,
-                tables,
-                atoms,
-                goals,
-                before_atoms,
-                before_goals,
-                last,
-                choice,
-            ) {
-                let here = Node {
-                    last: last,
-                    left: left,
-                    number: node.number,
-                    exhausted: exhausted,
-                };
-                let r = follow(shop, order, tables, table, atoms, goals, here, choice);
-                if r.found {
-                    return r;
-                }
-                if exhausted < r.exhausted {
-                    exhausted = r.exhausted;
-                }
+        let choice = Choice { mv, place };
+        if trial::can_tell(exhausted, node.left - 1, count, mv)
+            && trial::is_open(given, here, before, node.last, choice)
+        {
+            match follow(given, here, Node { exhausted, ..node }, choice) {
+                Ok(steps) => return Ok(steps),
+                Err(others) => exhausted = exhausted.max(others),
             }
         }
     }
-    Found::none(exhausted)
+    Err(exhausted)
 }
 
 // The first trace of so many steps whose first is this open step, none of its steps left out.
 #[cycle(follow_moves_places)]
-fn follow<'a>(
-    shop: &'a [u16],
-    order: &'a [u16],
-    tables: &[u16],
-    table: &[u16; achievers::WORDS],
-    atoms: &[bool; Shop::MOST_ATOMS as usize],
-    goals: &[u16; Goals::WORDS],
+fn follow(
+    given: &Given<'_>,
+    here: Moment<'_>,
     node: Node,
     choice: Choice,
-) -> Found
-    requires lent { Lent shop.now order.now tables.now table.now × Going shop.now order.now node.number atoms.now goals.now
-        × (1 ≤ node.left) × (node.number + node.left ≤ most_depth) }
-    requires fact { (P₀ : Problem) × (y : Step) × Open shop.now P₀ y (problem_with shop.now order.now atoms.now goals.now) choice }
-    ensures { (P₀ : Problem) (y : Step) → Open shop.now P₀ y (problem_with shop.now order.now atoms.now goals.now) choice
-        → Finds (λ k. tried (k - 1) (rules_of shop.now) P₀ y node.number
-        (problem_with shop.now order.now atoms.now goals.now) (step_of choice)) node.number node.left result }
+) -> Result<Steps, Exhausted>
+    requires going { Going given.now.shop.now given.now.order.now node.number here.atoms.now here.goals.now × (1 ≤ node.left)
+        × (node.number + node.left ≤ most_depth) }
+    requires fact { (P₀ : Problem) × (y : Step) × Open given.now.shop.now P₀ y (problem_at given.now here) choice }
+    ensures { (P₀ : Problem) (y : Step) → Open given.now.shop.now P₀ y (problem_at given.now here.entry) choice
+        → Finds (λ k. tried (k - 1) (rules_of given.now.shop.now) P₀ y node.number (problem_at given.now here.entry) (step_of choice))
+        node.number node.left result }
 {
     let left = node.left - 1;
     let number = node.number;
-    let mv = choice.mv;
-    if rules::crowded(left, goals::count_of(goals), mv) {
-        return Found::run_out(node.exhausted);
+    if rules::crowded(left, here.goals.len(), choice.mv) {
+        return Err(node.exhausted.one_more());
     }
-    let mut next_atoms = *atoms;
-    let mut next_goals = *goals;
+    let mut next_atoms = *here.atoms;
+    let mut next_goals = *here.goals;
     taking::apply(
-        shop,
-        order,
-        tables,
+        given.shop,
+        given.order,
+        given.tables,
         &mut next_atoms,
         &mut next_goals,
         number,
         choice,
     );
-    let next = Node {
+    let next = Moment {
+        atoms: &next_atoms,
+        goals: &next_goals,
+    };
+    let next_node = Node {
         last: choice,
-        left: left,
+        left,
         number: number + 1,
         exhausted: node.exhausted,
     };
-    if !trial::may_suffice(shop, order, tables, table, &next_atoms, &next_goals, next) {
-        return Found::run_out(node.exhausted);
+    if !trial::may_suffice(given, next, next_node) {
+        return Err(node.exhausted.one_more());
     }
-    let r = places(
-        shop,
-        order,
-        tables,
-        table,
-        &next_atoms,
-        &next_goals,
-        atoms,
-        goals,
-        next,
-    );
-    if r.found {
-        return r.with(number, moves::number_of(mv), choice.place);
-    }
-    r
+    let steps = places(given, next, here, next_node)?;
+    Ok(steps.with(number, moves::number_of(choice.mv), choice.place))
 }

@@ -1,70 +1,69 @@
-// What a search comes to.
-ghost use Rattle.std.specs.Prelude.{◌≡◌, true, false, ◌∷◌, ℕ, suc, ◌+◌, ◌<◌};
+// What a search comes to: the steps of a trace, or how many of its branches ran out of steps.
+ghost use Rattle.std.specs.Prelude.{◌≡◌, ◌∷◌, ℕ, suc, ◌+◌, ◌<◌, max};
 ghost use Rattle.hgn.specs.Trace.{step};
 ghost use Rattle.search.specs.Founds.{steps_from};
 ghost use Rattle.hgn.specs.Search.{most_depth};
 
 use network::waiting::Place;
 
-// Whether a trace was found; its moves and places, each at the number of its step; if none was found, how many branches
-// ran out of steps, as far as they are counted.
+// A step of a trace: the number of its move, and its place.
 #[derive(Clone, Copy)]
-pub struct Found {
-    pub found: bool,
-    pub moves: [u16; Found::MOST as usize],
-    pub places: [u16; Found::MOST as usize],
-    pub exhausted: u16,
+pub struct Step {
+    pub mv: u16,
+    pub place: Place,
 }
 
-impl Found {
+// The steps of a trace, each at its number. What stands behind the last is of no meaning.
+#[derive(Clone, Copy)]
+pub struct Steps {
+    pub listed: [Step; Steps::MOST as usize],
+}
+
+impl Steps {
     // The most steps of a search.
     pub const MOST: u32 = 32;
+
+    // No step yet.
+    pub const NONE: Steps = Steps {
+        listed: [Step {
+            mv: 0,
+            place: Place(0),
+        }; Steps::MOST as usize],
+    };
+
+    // The trace with the step of this number put before its others.
+    pub fn with(mut self, number: u16, mv: u16, place: Place) -> Steps
+        requires { number < most_depth }
+        ensures { (k : ℕ) → steps_from number (suc k) result ≡ step mv place.0 ∷ steps_from (number + 1) k self }
+    {
+        self.listed[number as usize] = Step { mv, place };
+        self
+    }
+}
+
+// How many branches ran out of steps before no trace was found, as far as they are counted.
+#[derive(Clone, Copy)]
+pub struct Exhausted(pub u16);
+
+impl Exhausted {
     // Branches that ran out of steps are counted so far: a search with so many is a long one.
     pub const MANY: u16 = 64;
 
-    // A trace of no steps.
-    pub fn end() -> Found
-        ensures { result.found ≡ true }
+    // This branch ran out of steps too.
+    pub fn one_more(self) -> Exhausted
+        ensures { 0 < result.0 }
     {
-        Found {
-            found: true,
-            moves: [0; Found::MOST as usize],
-            places: [0; Found::MOST as usize],
-            exhausted: 0,
+        if self.0 < Exhausted::MANY {
+            Exhausted(self.0 + 1)
+        } else {
+            self
         }
     }
 
-    // No trace, and how many branches ran out of steps.
-    pub fn none(exhausted: u16) -> Found
-        ensures { (result.found ≡ false) × (result.exhausted ≡ exhausted) }
+    // Of two counts, one of them taken on from the other, the later.
+    pub fn max(self, other: Exhausted) -> Exhausted
+        ensures { result.0 ≡ max self.0 other.0 }
     {
-        Found {
-            found: false,
-            moves: [0; Found::MOST as usize],
-            places: [0; Found::MOST as usize],
-            exhausted: exhausted,
-        }
-    }
-
-    // No trace: this branch runs out of steps, after so many others.
-    pub fn run_out(exhausted: u16) -> Found
-        ensures { (result.found ≡ false) × (0 < result.exhausted) }
-    {
-        if exhausted < Found::MANY {
-            return Found::none(exhausted + 1);
-        }
-        Found::none(exhausted)
-    }
-
-    // The trace found, with the step of this number put before its others.
-    pub fn with(self, number: u16, mv: u16, place: Place) -> Found
-        requires { number < most_depth }
-        ensures { (result.found ≡ self.found) × ((k : ℕ) → steps_from number (suc k) result ≡ step mv place.0 ∷ steps_from (number + 1) k self) }
-    {
-        let at = number as usize;
-        let mut next = self;
-        next.moves[at] = mv;
-        next.places[at] = place.0;
-        next
+        Exhausted(self.0.max(other.0))
     }
 }

@@ -5,5 +5,6 @@
 pub mod call;
 pub mod explore;
 pub mod found;
+pub mod lent;
 pub mod shortest;
 pub mod trial;

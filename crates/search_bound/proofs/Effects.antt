@@ -13,25 +13,26 @@ use Rattle.hgn.specs.Meaning.{Literal, literals, node_of}
 use Rattle.hgn.specs.State.{relevant}
 use Rattle.hgn.specs.Run.{action_at}
 use Rattle.hgn.specs.Shop.{domain}
-use Rattle.sheet_index.specs.declared.index.Part.{Part}
+use Rattle.sheet_index.specs.declared.rows.Rows.{Rows}
 use Rattle.sheet_rows.proofs.Laws.{told}
-use Rattle.sheet_index.specs.Index.{span_rows, part_rows}
+use Rattle.sheet_index.specs.Index.{span_rows, rows_in}
 use Rattle.sheet_index.specs.Tables.{ActionIn}
 use Rattle.network.specs.Entries.{waiting_of}
 use Rattle.network.specs.declared.waiting.Entry.{Entry}
 use Rattle.network.specs.Goals.{count_in, entry_in, list_in}
 use Rattle.network.proofs.WaitingGoals.{list_length, list_at}
+use Rattle.network.specs.declared.goals.Goals.{Goals}
 
 -- What is told of a goal's rows is told of the goal.
-pub wanted_at : (shop order : List ℕ) (k : ℕ) (rows : Part) → ActionIn shop k rows → (goal : Entry) {r v : Bool}
-    → r ≡ relevant (literals Tag.makes_true Tag.makes_false (part_rows shop rows)) (node_of (span_rows shop order goal.rows)).formula → r ≡ v
+pub wanted_at : (shop order : List ℕ) (k : ℕ) (rows : Rows) → ActionIn shop k rows → (goal : Entry) {r v : Bool}
+    → r ≡ relevant (literals Tag.makes_true Tag.makes_false (rows_in rows)) (node_of (span_rows shop order goal.rows)).formula → r ≡ v
     → relevant (action_at (domain shop) k).effects (waiting_of shop order goal).formula ≡ v
 unfolding waiting_of
 wanted_at shop order k rows a goal p q =
     ap (λ (ls : List Literal). relevant ls (node_of (span_rows shop order goal.rows)).formula) (sym a.effects) ∙ told p q
 
 -- A search through the waiting goals that has come to place `i`: it ends there, has found one, or goes on.
-module _ (shop order ws : List ℕ) (test : Waiting → Bool) (i : ℕ)
+module _ (shop order : List ℕ) (ws : Goals) (test : Waiting → Bool) (i : ℕ)
     (known : any test (list_in shop order ws) ≡ any test (drop i (list_in shop order ws))) where
   pub goals_none : count_in ws ≤ i → false ≡ any test (list_in shop order ws)
   unfolding any

@@ -1,10 +1,12 @@
 -- Which methods have a node to which an action is relevant: along a method's nodes, and method by method. Assumes nothing.
-use Prim.Native.Nat.{ℕ, suc, ◌+◌, ◌-◌, ◌<◌, ◌≤◌}
+use Prim.Native.Nat.{ℕ, ◌+◌, ◌<◌, ◌≤◌}
 use native.Mathlib.Omega.{arith}
 use mathlib.Core.Path.{◌≡◌, refl, sym, ap, ◌∙◌}
 use mathlib.Core.Logic.{◌≢◌}
 use mathlib.Core.Bool.{Bool, true, false, ◌||◌}
 use mathlib.Core.List.{List, [], ◌∷◌, map}
+use Rattle.std.specs.Prelude.{Option, Some, None, IfSome}
+use Rattle.std.specs.Option.{is_some}
 use lib.Dec.{eqb}
 use lib.ListN.{get_or}
 use borrow.Author.Tests.{eqb-true, eqb-false}
@@ -16,9 +18,9 @@ use Rattle.hgn.specs.Shop.{domain, method_count}
 use Rattle.hgn.specs.Replay.{rules_of}
 use Rattle.hgn.proofs.Logic.Tests.{true_any, at_mem, at_of_lt, false_not_true}
 use Rattle.hgn.proofs.Sheets.Checked.{shop_counts}
-use Rattle.sheet_index.specs.declared.index.Part.{Part}
+use Rattle.sheet_index.specs.declared.rows.Rows.{Rows}
 use Rattle.sheet_rows.specs.declared.position.Sheet.TheVariants as Of
-use Rattle.sheet_index.specs.Index.{part_rows}
+use Rattle.sheet_index.specs.Index.{rows_in}
 use Rattle.sheet_index.specs.Tables.{Bounds, Walk, Indexed, ActionIn, node_at, MethodAt}
 use Rattle.sheet_index.proofs.NodeWalks.{ahead, at_end, walk_same}
 use Rattle.sheet_index.proofs.Tables.{shop_passes}
@@ -65,50 +67,56 @@ module _ {test : Bounds → Bool} {table : List ℕ} {e first : ℕ} where
         same = looked_turn ∙ rw q;
       }
 
--- Of the first `n` methods none but `found`, its number plus 1, passes the test; where that is 0, none.
-pub record FoundTo (has : ℕ → Bool) (n found : ℕ) : Type 0 where
-  pub within : found ≤ n
-  pub only : (j : ℕ) → j < n → has j ≡ true → suc j ≡ found
+-- Of the first `n` methods none but the one found passes the test.
+pub record FoundTo (has : ℕ → Bool) (n : ℕ) (found : Option ℕ) : Type 0 where
+  pub within : IfSome found (λ m. m < n)
+  pub only : (j : ℕ) → j < n → has j ≡ true → found ≡ Some j
 
-pub found_none : (has : ℕ → Bool) → FoundTo has 0 0
-found_none has = record { within = omega arith; only = λ j h. absurd (omega arith) }
+pub found_none : (has : ℕ → Bool) → FoundTo has 0 None
+found_none has = record { within = tt; only = λ j h. absurd (omega arith) }
 
-module _ {has : ℕ → Bool} {n found : ℕ} (f : FoundTo has n found) where
-  pub found_here : found ≤ 0 → FoundTo has (n + 1) (n + 1)
-  found_here z = record { within = omega arith; only = λ j h e. go j h e (eqb j n) refl }
+module _ {has : ℕ → Bool} {n : ℕ} where
+  pub found_here : {found : Option ℕ} → FoundTo has n found → is_some found ≡ false → FoundTo has (n + 1) (Some n)
+  found_here {found = Some m} f z = absurd (false_not_true _ z refl)
+  found_here {found = None} f z = record { within = omega arith; only = λ j h e. go j h e (eqb j n) refl }
     where
-      go : (j : ℕ) → j < n + 1 → has j ≡ true → (b : Bool) → eqb j n ≡ b → suc j ≡ n + 1
-      go j h e true y = omega (arith, eqb-true j n y)
-      go j h e false y = let x : j ≢ n = eqb-false j n y in absurd (omega (arith, f.only j (omega arith) e))
+      go : (j : ℕ) → j < n + 1 → has j ≡ true → (b : Bool) → eqb j n ≡ b → Some n ≡ Some j
+      go j h e true y = ap Some (sym (eqb-true j n y))
+      go j h e false y = let x : j ≢ n = eqb-false j n y in let z : None ≡ Some j = f.only j (omega arith) e in absurd cc
 
-  pub found_not : has n ≡ false → FoundTo has (n + 1) found
-  found_not q = record { within = omega (arith, f.within); only = λ j h e. go j h e (eqb j n) refl }
+  pub found_not : {found : Option ℕ} → FoundTo has n found → has n ≡ false → FoundTo has (n + 1) found
+  found_not {found} f q = record { within = still found f.within; only = λ j h e. go j h e (eqb j n) refl }
     where
-      go : (j : ℕ) → j < n + 1 → has j ≡ true → (b : Bool) → eqb j n ≡ b → suc j ≡ found
+      still : (o : Option ℕ) → IfSome o (λ m. m < n) → IfSome o (λ m. m < n + 1)
+      still None w = tt
+      still (Some m) w = omega arith
+
+      go : (j : ℕ) → j < n + 1 → has j ≡ true → (b : Bool) → eqb j n ≡ b → found ≡ Some j
       go j h e true y = absurd (false_not_true (has n) q (sym (ap has (eqb-true j n y)) ∙ e))
       go j h e false y = let x : j ≢ n = eqb-false j n y in f.only j (omega arith) e
 
 -- Method `j` has a node to which these effects are relevant.
-abbrev pub has_node : List ℕ → Part → ℕ → Bool
-has_node shop rows j = any (λ n. relevant (literals 5 6 (part_rows shop rows)) n.formula) (method_at (domain shop) j).nodes
+abbrev pub has_node : List ℕ → Rows → ℕ → Bool
+has_node shop rows j = any (λ n. relevant (literals 5 6 (rows_in rows)) n.formula) (method_at (domain shop) j).nodes
 
 -- What is told of a method's nodes along the walk is told of the method.
-pub method_told : {shop order table : List ℕ} {m : ℕ} {at : MethodRows} (a : MethodAt shop order table m at) (rows : Part) {r : Bool}
+pub method_told : {shop order table : List ℕ} {m : ℕ} {at : MethodRows} (a : MethodAt shop order table m at) (rows : Rows) {r : Bool}
     → r ≡ any (bound_relevant shop order rows) a.bs → r ≡ has_node shop rows m
 method_told {shop} {order} a rows p =
-    p ∙ any_map (λ (n : Node). relevant (literals 5 6 (part_rows shop rows)) n.formula) (node_at shop order Of.Shop) a.bs
-    ∙ ap (any (λ (n : Node). relevant (literals 5 6 (part_rows shop rows)) n.formula)) a.nodes
+    p ∙ any_map (λ (n : Node). relevant (literals 5 6 (rows_in rows)) n.formula) (node_at shop order Of.Shop) a.bs
+    ∙ ap (any (λ (n : Node). relevant (literals 5 6 (rows_in rows)) n.formula)) a.nodes
 
-module _ {shop order table : List ℕ} (ix : Indexed shop order table) (k : ℕ) (rows : Part) (there : ActionIn shop k rows) where
+module _ {shop order table : List ℕ} (ix : Indexed shop order table) (k : ℕ) (rows : Rows) (there : ActionIn shop k rows) where
   -- All methods are asked.
-  pub method_alone : {n found : ℕ} → FoundTo (has_node shop rows) n found → n ≡ method_count shop → 1 ≤ found
-      → (found ≤ method_count shop) × OnlyMethod (rules_of shop) k (found - 1)
-  method_alone f e p = (
+  pub method_alone : {n : ℕ} {found : Option ℕ} → FoundTo (has_node shop rows) n found → n ≡ method_count shop
+      → IfSome found (λ m. (m < method_count shop) × OnlyMethod (rules_of shop) k m)
+  method_alone {found = None} f p = tt
+  method_alone {found = Some m} f p = (
     omega (arith, f.within),
     (λ j i a b c.
         let nodes = (method_at (domain shop) j).nodes in
-        let z = f.only j (omega (arith, (shop_counts shop (shop_passes ix)).1))
-        (true_any (λ (x : Node). relevant (literals 5 6 (part_rows shop rows)) x.formula) nodes (at_mem (at_of_lt nodes i no_node b))
+        let z : Some m ≡ Some j = f.only j (omega (arith, (shop_counts shop (shop_passes ix)).1))
+        (true_any (λ (x : Node). relevant (literals 5 6 (rows_in rows)) x.formula) nodes (at_mem (at_of_lt nodes i no_node b))
         (ap (λ (ls : List Literal). relevant ls (node_in (domain shop) j i).formula) there.effects ∙ c)) in
-        omega arith),
+        cc),
   )

@@ -1,11 +1,10 @@
 -- Which literals are wanted by rows, by goals and by moves. Assumes nothing.
-use Prim.Native.Nat.{ℕ, zero, suc, ◌+◌, ◌-◌, ◌<◌}
+use Prim.Native.Nat.{ℕ, suc, ◌+◌, ◌-◌, ◌<◌}
 use native.Mathlib.Omega.{arith}
-use native.Mathlib.Nat.{not-suc-le-zero}
 use mathlib.Core.Path.{◌≡◌, refl, sym, ap, ◌∙◌, subst}
-use mathlib.Core.Bool.{Bool, true, false, cond, not}
+use mathlib.Core.Bool.{Bool, true, false, cond}
 use mathlib.Core.List.Memᴰ
-use mathlib.Core.List.{List, [], ◌∷◌, map, zip_with, Memᴰ}
+use mathlib.Core.List.{List, [], ◌∷◌, map, Memᴰ}
 use lib.Dec.{ltb}
 use lib.ListN.{length, get_or}
 use borrow.Author.Tests.{eq-eqb, ne_eqb, ltb-true, ltb-false}
@@ -22,7 +21,7 @@ use Rattle.hgn.proofs.Logic.Tests.{contains_iff, false_not_true}
 use Rattle.hgn.proofs.Sheets.Checked.{shop_counts}
 use Rattle.hgn.proofs.Network.Waiting.{goal_mem}
 use Rattle.sheet_index.proofs.Indexed.{method_span, operators_count, action_span}
-use Rattle.sheet_index.specs.Index.{span_rows, tags_of, values_of, span}
+use Rattle.sheet_index.specs.Index.{span_rows, span}
 use Rattle.network.specs.Entries.{waiting_of}
 use Rattle.sheet_index.specs.Tables.{Indexed}
 use Rattle.sheet_index.specs.declared.index.Span.{Span}
@@ -35,6 +34,7 @@ use Rattle.search_theory.specs.Needed.{Needed, needs_of}
 use Rattle.search_theory.proofs.Needed.{needed_by_goal, needed_by_need}
 use Rattle.sheet_index.proofs.Spans.{operator_span, bounds}
 use Rattle.search_bound.specs.NeededMoves.{move_of_operator, WantedAll, WantedFormula}
+use Rattle.network.specs.declared.goals.Goals.{Goals}
 
 -- The literal of a row.
 module _ (t f tag value : ℕ) where
@@ -46,17 +46,13 @@ module _ (t f tag value : ℕ) where
   unfolding literals
   row_false n e = rw (ne_eqb tag t n, eq-eqb tag f e) (Memᴰ.head refl)
 
--- The literal of row `i` is one of the rows'.
-pub row_elem : (t f : ℕ) (tags values : List ℕ) (i : ℕ) → i < length tags → i < length values → (l : Literal)
-    → Memᴰ l (literals t f (row (get_or tags i 0) (get_or values i 0) ∷ [])) → Memᴰ l (literals t f (zip_with row tags values))
-unfolding zip_with
-row_elem t f [] values i h k l m = absurd (not-suc-le-zero h)
-row_elem t f (x ∷ tags) [] i h k l m = absurd (not-suc-le-zero k)
-row_elem t f (x ∷ tags) (v ∷ values) zero h k l m =
-    subst (Memᴰ l) (sym (first_row_law t f (row x v) (zip_with row tags values))) (Memᴰ.append_left _ m)
-row_elem t f (x ∷ tags) (v ∷ values) (suc i) h k l m =
-    subst (Memᴰ l) (sym (first_row_law t f (row x v) (zip_with row tags values)))
-    (Memᴰ.append_right (literals t f (row x v ∷ [])) (row_elem t f tags values i (omega arith) (omega arith) l m))
+-- The literals of the first row and those of the rows after it are the rows'.
+module _ (t f : ℕ) {rows rs : List Row} {r : Row} (p : rows ≡ r ∷ rs) (l : Literal) where
+  pub row_here : Memᴰ l (literals t f (r ∷ [])) → Memᴰ l (literals t f rows)
+  row_here m = rw p (subst (Memᴰ l) (sym (first_row_law t f r rs)) (Memᴰ.append_left _ m))
+
+  pub rows_after : Memᴰ l (literals t f rs) → Memᴰ l (literals t f rows)
+  rows_after m = rw p (subst (Memᴰ l) (sym (first_row_law t f r rs)) (Memᴰ.append_right (literals t f (r ∷ [])) m))
 
 -- One alternative in these rows, none before them and nothing wanted before it; or, if it has begun, none in them.
 pub one_from : Bool → List Row → Bool
@@ -95,18 +91,19 @@ one_formula (r ∷ rs) e = go (has 8 r) (has 9 r) (has 10 r) refl refl refl e (o
 
 -- How a row goes on.
 module _ (t v : ℕ) (rs : List Row) where
-  pub one_begins : t ≡ 8 → one_from false (row t v ∷ rs) ≡ one_from true rs
+  pub one_begins : (found : Bool) → found ≡ false → t ≡ 8 → one_from found (row t v ∷ rs) ≡ one_from true rs
   unfolding one_from
-  one_begins e = rw e
+  one_begins true n e = absurd (false_not_true _ n refl)
+  one_begins false n e = rw e
 
-  pub one_goes_on : (found : Bool) → not found ≡ false → (t ≡ 8 → ⊥) → one_from found (row t v ∷ rs) ≡ one_from found rs
+  pub one_goes_on : (found : Bool) → found ≡ true → (t ≡ 8 → ⊥) → one_from found (row t v ∷ rs) ≡ one_from found rs
   unfolding one_from
   one_goes_on true e n = rw (ne_eqb t 8 n)
-  one_goes_on false e n = absurd (false_not_true _ e refl)
+  one_goes_on false e n = absurd (false_not_true _ refl e)
 
-  pub one_not_yet : (found : Bool) → not found ≡ true → (t ≡ 8 → ⊥) → (t ≡ 9 → ⊥) → (t ≡ 10 → ⊥) → one_from found (row t v ∷ rs) ≡ one_from found rs
+  pub one_not_yet : (found : Bool) → found ≡ false → (t ≡ 8 → ⊥) → (t ≡ 9 → ⊥) → (t ≡ 10 → ⊥) → one_from found (row t v ∷ rs) ≡ one_from found rs
   unfolding one_from
-  one_not_yet true e n y z = absurd (false_not_true _ refl e)
+  one_not_yet true e n y z = absurd (false_not_true _ e refl)
   one_not_yet false e n y z = rw (ne_eqb t 8 n, ne_eqb t 9 y, ne_eqb t 10 z)
 
 pub one_ends : (found : Bool) → one_from found [] ≡ found
@@ -126,14 +123,8 @@ module _ (r : Rules) (P : Problem) where
   pub needs_wanted : (m : Move) → Needed r P m → WantedAll (needs_of r.domain m) r P
   needs_wanted m h l i k f o = needed_by_need r P m l k h ((contains_iff (needs_of r.domain m) l).1 i) f o
 
--- What is known of the rows of a span is known of the rows handed back.
-pub span_rows_law : (P : List Row → Type 0) (shop order : List ℕ) (s : Span) {tags values : List ℕ} → tags ≡ tags_of s shop order → values ≡ values_of s shop order
-    → P (span_rows shop order s) → P (zip_with row tags values)
-unfolding span_rows
-span_rows_law P shop order s t v h = rw (t, v) h
-
 -- What the goal at a place wants is wanted.
-pub entry_wanted : (r : Rules) (s : State) (shop order ws : List ℕ) (i : ℕ) → i < count_in ws
+pub entry_wanted : (r : Rules) (s : State) (shop order : List ℕ) (ws : Goals) (i : ℕ) → i < count_in ws
     → WantedFormula (node_of (span_rows shop order (entry_in ws i).rows)).formula r (problem_with shop order s ws)
 unfolding waiting_of
 entry_wanted r s shop order ws i b =

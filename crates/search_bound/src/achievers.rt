@@ -1,112 +1,97 @@
-// Which action alone achieves a literal: a table of words, filled once for a shop sheet and then lent.
-ghost use Rattle.std.specs.Prelude.{◌≡◌, cond, [], ◌∷◌, ◌<◌, eqb, length, get_or, set};
+// Which actions achieve a literal, in a table that is filled once for a shop sheet and then lent.
+ghost use Rattle.std.specs.Prelude.{◌≡◌, [], ◌∷◌, ◌<◌};
 ghost use Rattle.hgn.specs.Tag as Tag;
 ghost use Rattle.hgn.specs.Rows.{row};
 ghost use Rattle.hgn.specs.Meaning.{literals};
 ghost use Rattle.hgn.specs.State.{most_atoms};
 ghost use Rattle.hgn.specs.Shop.{domain};
-ghost use Rattle.sheet_index.specs.Index.{part_rows, Lies};
+ghost use Rattle.sheet_index.specs.Index.{rows_in};
 ghost use Rattle.sheet_index.specs.Tables.{Indexed};
-ghost use Rattle.search_bound.specs.Tables.{achievers_words, index_of, OnlyAchievers, many, noted};
+ghost use Rattle.state.specs.Literals.{literal_of};
+ghost use Rattle.search_bound.specs.Tables.{entries, index_of, entry_at, OnlyAchievers, noted};
 
 use sheet_check::check::Shop;
 use sheet_check::sizes::ShopSizes;
-use sheet_index::index::Part;
 use sheet_index::operators;
-use sheet_rows::position::Atom;
-use sheet_rows::tag;
+use sheet_index::rows::Rows;
+use state::literals::{Literal, LiteralTags};
 
-// An atom and its sign: the literal holds where the atom is in (true) or out (false).
+// Which actions achieve a literal: none, a single one, told as an operator (operator k is action k + 1), or several.
 #[derive(Clone, Copy)]
-pub struct Literal {
-    pub atom: Atom,
-    pub sign: bool,
+pub enum Achievers {
+    None,
+    Only(u16),
+    Many,
 }
 
-// Stands where several actions achieve a literal: no action has this number.
-pub const MANY: u16 = 65535;
-
-// The words of the table: two an atom, one for each sign.
-pub const WORDS: usize = 2 * Shop::MOST_ATOMS as usize;
+// Which actions achieve each literal. An atom has two entries, one for each sign.
+#[derive(Drop)]
+pub struct Table {
+    entries: [Achievers; Table::ENTRIES],
+}
 
 // Where the table has a literal.
-pub fn index_of(literal: Literal) -> usize
+fn index_of(literal: Literal) -> usize
     requires { literal.atom.0 < most_atoms }
-    ensures { (result ≡ index_of literal.atom.0 literal.sign) × (result < achievers_words) }
+    ensures { (result ≡ index_of (literal_of literal)) × (result < entries) }
 {
-    let atom = literal.atom;
-    let at = atom.0 as usize;
-    if literal.sign {
-        return 2 * at + 1;
-    }
-    2 * at
+    2 * usize::from(literal.atom.0) + usize::from(literal.sign)
 }
 
-// The action is noted at a place of the table; `MANY` where another stands there.
-fn note(table: &mut [u16; WORDS], at: usize, action: u16)
-    requires { at < achievers_words }
-    ensures { table.new ≡ set table.old at (cond (eqb (get_or table.old at 0) 0) action many) }
-{
-    if table[at] == 0 {
-        table[at] = action;
-        return;
-    }
-    table[at] = MANY;
-}
+impl Table {
+    const ENTRIES: usize = 2 * Shop::MOST_ATOMS as usize;
 
-// The action is noted at the literal that the row makes, if it makes one.
-fn note_row(table: &mut [u16; WORDS], tag: u16, value: u16, action: u16)
-    requires { length table.old ≡ achievers_words }
-    ensures { table.new ≡ noted action (literals Tag.makes_true Tag.makes_false (row tag value ∷ [])) table.old }
-{
-    if Shop::MOST_ATOMS <= value {
-        return;
+    // The table of a shop sheet.
+    pub fn of(shop: &[u16], order: &[u16], tables: &[u16]) -> Table
+        requires { Indexed shop.now order.now tables.now }
+        ensures { OnlyAchievers (domain shop.now) result }
+    {
+        let mut table = Table {
+            entries: [Achievers::None; Self::ENTRIES],
+        };
+        for operator in 0..ShopSizes::of(shop).actions {
+            table.note_effects(operators::action_part(shop, tables, operator + 1), operator);
+        }
+        table
     }
-    let atom = Atom(value);
-    if tag == tag::MAKES_TRUE {
-        let at = index_of(Literal {
-            atom: atom,
-            sign: true,
-        });
-        note(table, at, action);
-        return;
-    }
-    if tag == tag::MAKES_FALSE {
-        let at = index_of(Literal {
-            atom: atom,
-            sign: false,
-        });
-        note(table, at, action);
-    }
-}
 
-// The action is noted at each literal that a part's rows make.
-fn note_effects(table: &mut [u16; WORDS], words: &[u16], part: Part, action: u16)
-    requires { (length table.old ≡ achievers_words) × Lies words.now part }
-    ensures { table.new ≡ noted action (literals Tag.makes_true Tag.makes_false (part_rows words.now part)) table.old }
-{
-    let tags = part.tags;
-    let values = part.values;
-    let n = part.rows;
-    let mut i = 0;
-    while i < n {
-        note_row(table, words[tags + i], words[values + i], action);
-        i += 1;
+    // The actions that achieve a literal.
+    pub fn achievers_of(&self, literal: Literal) -> Achievers
+        requires { literal.atom.0 < most_atoms }
+        ensures { result ≡ entry_at self.now.entries (literal_of literal) }
+    {
+        self.entries[index_of(literal)]
     }
-}
 
-// For each literal the one action that achieves it; 0 where none does, `MANY` where several do. What the table held before is gone.
-pub fn fill_table<'a>(shop: &'a [u16], order: &'a [u16], tables: &[u16], table: &mut [u16; WORDS])
-    requires { Indexed shop.now order.now tables.now }
-    ensures { OnlyAchievers (domain shop.now) table.new }
-{
-    let sizes = ShopSizes::of(shop);
-    let count = sizes.actions;
-    *table = [0; WORDS];
-    let mut action: u16 = 0;
-    while action < count {
-        action += 1;
-        let rows = operators::action_part(shop, tables, action);
-        note_effects(table, shop, rows, action);
+    // The action is noted at the literal; the table has no place for an atom past the last.
+    fn note(&mut self, literal: Literal, operator: u16)
+        ensures { self.new.entries ≡ noted operator (literal_of literal ∷ []) self.old.entries }
+    {
+        if Shop::MOST_ATOMS <= literal.atom.0 {
+            return;
+        }
+        let at = index_of(literal);
+        self.entries[at] = match self.entries[at] {
+            Achievers::None => Achievers::Only(operator),
+            _ => Achievers::Many,
+        };
+    }
+
+    // The action is noted at the literal that the row makes, if it makes one.
+    fn note_row(&mut self, tag: u16, value: u16, operator: u16)
+        ensures { self.new.entries ≡ noted operator (literals Tag.makes_true Tag.makes_false (row tag value ∷ [])) self.old.entries }
+    {
+        if let Some(literal) = LiteralTags::EFFECTS.literal(tag, value) {
+            self.note(literal, operator);
+        }
+    }
+
+    // The action is noted at each literal that these rows make.
+    fn note_effects(&mut self, rows: Rows, operator: u16)
+        ensures { self.new.entries ≡ noted operator (literals Tag.makes_true Tag.makes_false (rows_in rows.entry)) self.old.entries }
+    {
+        for (tag, value) in rows.iter() {
+            self.note_row(*tag, *value, operator);
+        }
     }
 }

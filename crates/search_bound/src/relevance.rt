@@ -1,5 +1,5 @@
 // Which method alone has a node to which an action is relevant, and whether an action is relevant to a waiting goal.
-ghost use Rattle.std.specs.Prelude.{◌≡◌, List, ◌-◌, ◌<◌, ◌≤◌};
+ghost use Rattle.std.specs.Prelude.{◌≡◌, List, ◌<◌, IfSome};
 ghost use Rattle.hgn.specs.Tag as Tag;
 ghost use Rattle.hgn.specs.Lists.{any};
 ghost use Rattle.hgn.specs.Meaning.{literals};
@@ -7,52 +7,42 @@ ghost use Rattle.hgn.specs.State.{relevant};
 ghost use Rattle.hgn.specs.Run.{action_at, method_at};
 ghost use Rattle.hgn.specs.Shop.{domain, method_count};
 ghost use Rattle.hgn.specs.Replay.{rules_of};
-ghost use Rattle.sheet_index.specs.Index.{part_rows, Lies};
+ghost use Rattle.sheet_index.specs.Index.{rows_in};
 ghost use Rattle.sheet_index.specs.Tables.{Bounds, Walk, Indexed};
-ghost use Rattle.network.specs.Goals.{list_in, Within};
+ghost use Rattle.network.specs.Goals.{list_in};
 ghost use Rattle.search_theory.specs.Needed.{OnlyMethod};
 ghost use Rattle.search_bound.specs.Tables.{bound_relevant, ActionOf};
 
-use network::goals;
 use network::goals::Goals;
 use network::waiting::Place;
 use sheet_check::rows::Row;
 use sheet_check::sizes::ShopSizes;
-use sheet_index::index::{Part, Span};
+use sheet_index::index::Span;
 use sheet_index::operators;
 use sheet_index::operators::MethodRows;
-use sheet_rows::tag;
+use sheet_index::rows::Rows;
+use state::literals::LiteralTags;
 use state::parts;
 
 // The effects among these rows are relevant to a node of the method with those.
-fn has_node_for<'a>(
-    shop: &'a [u16],
-    order: &'a [u16],
+fn has_node_for(
+    shop: &[u16],
+    order: &[u16],
     tables: &[u16],
     method: MethodRows,
-    effects: Part,
+    effects: Rows,
 ) -> bool
-    requires { ((bs : List Bounds) × Walk tables.now method.end.0 method.first.0 bs) × Lies shop.now effects }
+    requires { (bs : List Bounds) × Walk tables.now method.end.0 method.first.0 bs }
     ensures { (bs : List Bounds) → Walk tables.now method.end.0 method.first.0 bs
-        → result ≡ any (bound_relevant shop.now order.now effects) bs }
+        → result ≡ any (bound_relevant shop.now order.now effects.entry) bs }
 {
-    let first = method.first;
-    let end = method.end;
-    let stop = end.0;
-    let mut row = first.0;
-    while row < stop {
+    let mut row = method.first.0;
+    // The table says where the next node begins, so no count says how far a turn goes.
+    while row < method.end.0 {
         let from = row;
-        let at = row as usize;
-        row = tables[at];
+        row = tables[from as usize];
         let node = Span::of_shop(Row(from), Row(row));
-        if parts::relevant_to(
-            shop,
-            order,
-            effects,
-            tag::MAKES_TRUE,
-            tag::MAKES_FALSE,
-            node,
-        ) {
+        if parts::relevant_to(shop, order, effects, LiteralTags::EFFECTS, node) {
             return true;
         }
     }
@@ -60,66 +50,45 @@ fn has_node_for<'a>(
 }
 
 // The effects among these rows are relevant to a node of the method.
-fn method_has<'a>(
-    shop: &'a [u16],
-    order: &'a [u16],
-    tables: &[u16],
-    effects: Part,
-    method: u16,
-) -> bool
-    requires { Indexed shop.now order.now tables.now × (method < method_count shop.now) × Lies shop.now effects }
-    ensures { result ≡ any (λ n. relevant (literals Tag.makes_true Tag.makes_false (part_rows shop.now effects))
+fn method_has(shop: &[u16], order: &[u16], tables: &[u16], effects: Rows, method: u16) -> bool
+    requires { Indexed shop.now order.now tables.now × (method < method_count shop.now) }
+    ensures { result ≡ any (λ n. relevant (literals Tag.makes_true Tag.makes_false (rows_in effects.entry))
         n.formula) (method_at (domain shop.now) method).nodes }
 {
     let rows = operators::method_rows(shop, tables, method);
     has_node_for(shop, order, tables, rows, effects)
 }
 
-// The method, by its number plus 1, that alone has a node to which this action is relevant; 0 where none or several have.
-pub fn only_method<'a>(shop: &'a [u16], order: &'a [u16], tables: &[u16], action: u16) -> u16
+// The method that alone has a node to which this action is relevant, if one does.
+pub fn only_method(shop: &[u16], order: &[u16], tables: &[u16], action: u16) -> Option<u16>
     requires { ActionOf shop.now order.now tables.now action }
-    ensures { 1 ≤ result → (result ≤ method_count shop.now) × OnlyMethod (rules_of shop.now) action (result - 1) }
+    ensures { IfSome result (λ m. (m < method_count shop.now) × OnlyMethod (rules_of shop.now) action m) }
 {
     let effects = operators::action_part(shop, tables, action);
-    let sizes = ShopSizes::of(shop);
-    let count = sizes.methods;
-    let mut found: u16 = 0;
-    let mut method: u16 = 0;
-    while method < count {
-        let this = method;
-        method += 1;
-        if method_has(shop, order, tables, effects, this) {
-            if 0 < found {
-                return 0;
+    let mut found = None;
+    for method in 0..ShopSizes::of(shop).methods {
+        if method_has(shop, order, tables, effects, method) {
+            if found.is_some() {
+                return None;
             }
-            found = method;
+            found = Some(method);
         }
     }
     found
 }
 
 // The action is relevant to some waiting goal.
-pub fn wanted_by<'a>(
-    shop: &'a [u16],
-    order: &'a [u16],
-    tables: &[u16],
-    goals: &[u16; Goals::WORDS],
-    action: u16,
-) -> bool
-    requires { ActionOf shop.now order.now tables.now action × Within goals.now }
+pub fn wanted_by(shop: &[u16], order: &[u16], tables: &[u16], goals: &Goals, action: u16) -> bool
+    requires { ActionOf shop.now order.now tables.now action }
     ensures { result ≡ any (λ g. relevant (action_at (domain shop.now) action).effects g.formula)
         (list_in shop.now order.now goals.now) }
 {
     let rows = operators::action_part(shop, tables, action);
-    let count = goals::count_of(goals);
-    let mut i: u16 = 0;
-    while i < count {
-        let goal = goals::entry_at(goals, Place(i));
-        let wants = goal.rows;
-        if parts::relevant_to(shop, order, rows, tag::MAKES_TRUE, tag::MAKES_FALSE, wants) {
+    for i in 0..goals.len() {
+        let goal = goals.entry_at(Place(i));
+        if parts::relevant_to(shop, order, rows, LiteralTags::EFFECTS, goal.rows) {
             return true;
         }
-        i += 1;
     }
     false
 }

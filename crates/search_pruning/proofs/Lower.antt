@@ -1,11 +1,11 @@
--- Searches through the first goals of the waiting list, and through two states side by side. Assumes nothing.
+-- Searches through the first goals of the waiting list. Assumes nothing.
 use Prim.Native.Nat.{ℕ, ◌+◌, ◌<◌, ◌≤◌}
 use native.Mathlib.Omega.{arith}
 use native.Mathlib.Numerals.{add-one}
 use mathlib.Core.Path.{◌≡◌, sym, ap, ◌∙◌}
-use mathlib.Core.Bool.{Bool, true, false, ◌&&◌, ◌||◌, beq, and-true, and-false}
+use mathlib.Core.Bool.{Bool, true, false, not, ◌&&◌, ◌||◌, and-true, and-false}
 use mathlib.Core.List.{List}
-use lib.Dec.{eqb}
+use lib.Dec.{eqb, ltb}
 use lib.ListN.{length, take, drop, get_or, drop_of_length-le}
 use lib.Seq.{drop-cons, length-take-le, get_or-take}
 use borrow.Author.Tests.{eq-eqb, ne_eqb, lt-ltb, le-ltb}
@@ -21,7 +21,8 @@ use Rattle.network.specs.declared.waiting.Entry.{Entry}
 use Rattle.network.specs.Goals.{count_in, entry_in, pending_in, list_in}
 use Rattle.network.proofs.WaitingGoals.{list_length, list_at, free_at}
 use Rattle.step.specs.Taking.{problem_with, ValidGoals}
-use Rattle.search_theory.specs.Rules.{too_few_left, same_state}
+use Rattle.search_theory.specs.Rules.{too_few_left}
+use Rattle.network.specs.declared.goals.Goals.{Goals}
 
 -- A search along a list that has come to place `i`: it ends there, has found one, or goes on.
 module _ {A : Type 0} (test : A → Bool) (l : List A) (i : ℕ) where
@@ -59,7 +60,7 @@ module _ {A : Type 0} (test : A → Bool) (l : List A) (i : ℕ) where
       all_on : test (get_or l i d) ≡ true → all test l ≡ all test (drop (i + 1) l)
       all_on q = all_turn ∙ rw q
 
-module _ (shop order ws : List ℕ) where
+module _ (shop order : List ℕ) (ws : Goals) where
   abbrev list : List Network.Waiting
   list = list_in shop order ws
 
@@ -80,7 +81,7 @@ module _ (shop order ws : List ℕ) where
 
       module _ (h : i < p) {b : Bool} (f : b ≡ eqb (pending_in ws i) 0) where
         free_is : {v : Bool} → b ≡ v → free list (goal_at list i) ≡ v
-        free_is q = sym (free_at shop order ws valid.within valid.counted i (omega arith)) ∙ told f q
+        free_is q = sym (free_at shop order ws valid.counted i (omega arith)) ∙ told f q
 
         pub lower_held : b ≡ false → any test (take p list) ≡ any test (drop (i + 1) (take p list))
         lower_held q = any_on test list i p fits known no_goal h (rw (free_is q) (and-false (relevant ls (goal_at list i).formula)))
@@ -123,41 +124,19 @@ module _ (shop order ws : List ℕ) where
         pub holds_on : a ≡ true → all holds list ≡ all holds (drop (i + 1) list)
         holds_on q = all_on holds list i known no_goal (rw (list_length shop order ws) h) (holds_at q)
 
-    -- With so many steps left, by the number that the words say.
+    -- With so many steps left, where so many goals are counted.
     module _ (left : ℕ) {number : ℕ} (is : number ≡ count) where
       size : length list ≡ number
       size = list_length shop order ws ∙ sym is
 
-      pub few_below : left < number → true ≡ too_few_left left (problem_with shop order s ws)
+      pub few_below : left < number → ltb left number ≡ too_few_left left (problem_with shop order s ws)
       unfolding too_few_left
       few_below h = rw (size, lt-ltb left number h)
 
-      pub few_above : number ≤ left → (left ≡ number → ⊥) → false ≡ too_few_left left (problem_with shop order s ws)
+      pub few_above : number ≤ left → (left ≡ number → ⊥) → eqb left number ≡ too_few_left left (problem_with shop order s ws)
       unfolding too_few_left
       few_above h n = rw (size, le-ltb left number h, ne_eqb left number n)
 
-      module _ (e : left ≡ number) {a : Bool} (r : a ≡ all holds list) where
-        pub few_held : a ≡ true → false ≡ too_few_left left (problem_with shop order s ws)
-        unfolding too_few_left
-        few_held q = rw (size, le-ltb left number (omega arith), eq-eqb left number e, told r q)
-
-        pub few_open : a ≡ false → true ≡ too_few_left left (problem_with shop order s ws)
-        unfolding too_few_left
-        few_open q = rw (size, le-ltb left number (omega arith), eq-eqb left number e, told r q)
-
--- Two states compared from atom `i` on.
-module _ (a b : State) (i : ℕ) (known : same_state a b ≡ same_state (drop i a) (drop i b)) where
-  pub same_end : length a ≤ i → length b ≤ i → true ≡ same_state a b
-  unfolding same_state
-  same_end h k = sym (known ∙ rw (drop_of_length-le a {i = i} h, drop_of_length-le b {i = i} k))
-
-  module _ (h : i < length a) (k : i < length b) where
-    same_turn : same_state a b ≡ (beq (get_or a i false) (get_or b i false) && same_state (drop (i + 1) a) (drop (i + 1) b))
-    unfolding same_state
-    same_turn = known ∙ rw (drop-cons a i false h, drop-cons b i false k, add-one)
-
-    pub same_on : beq (get_or a i false) (get_or b i false) ≡ true → same_state a b ≡ same_state (drop (i + 1) a) (drop (i + 1) b)
-    same_on q = same_turn ∙ rw q
-
-    pub same_not : beq (get_or a i false) (get_or b i false) ≡ false → false ≡ same_state a b
-    same_not q = sym (same_turn ∙ rw q)
+      pub few_open : left ≡ number → {a : Bool} → a ≡ all holds list → not a ≡ too_few_left left (problem_with shop order s ws)
+      unfolding too_few_left
+      few_open e r = rw (size, le-ltb left number (omega arith), eq-eqb left number e, r)

@@ -5,11 +5,10 @@ use mathlib.Core.Path.{◌≡◌, refl, subst}
 use mathlib.Core.Bool.{Bool, true, false, cond, ◌&&◌, ◌||◌}
 use mathlib.Core.List.{List}
 use lib.Dec.{eqb, ltb}
-use borrow.Author.Tests.{eq-eqb, ne_eqb, lt-ltb, le-ltb, ltb-true, eqb-true}
+use borrow.Author.Tests.{le-ltb, ltb-true, eqb-true}
 use Rattle.hgn.specs.Run as Run
 use Rattle.hgn.specs.Run.{move_of}
 use Rattle.hgn.specs.Shop.{domain, action_count, method_count}
-use Rattle.hgn.proofs.Logic.Tests.{false_not_true}
 use Rattle.hgn.proofs.Run.Moves.{reads_action, reads_method}
 use Rattle.hgn.proofs.Sheets.Checked.{shop_actions, shop_methods, shop_counts}
 use Rattle.step.specs.Moves.{Known, known_of}
@@ -19,7 +18,7 @@ use Rattle.step.specs.declared.moves.Choice.{Choice}
 use Rattle.step.specs.declared.moves.Move.TheVariants.{Release, Act, Use}
 use Rattle.sheet_index.proofs.Tables.{shop_passes}
 use Rattle.search_theory.specs.Rules.{is_action, is_earlier}
-use Rattle.search_pruning.specs.Tests.{move_number, action_number, step_of, earlier_choice}
+use Rattle.search_pruning.specs.Tests.{move_number, lower_action, step_of, earlier_choice}
 
 and_no : (b : Bool) → false ≡ (b && false)
 and_no true = refl
@@ -31,50 +30,33 @@ and_yes false = refl
 
 -- Of two known moves both are actions and the first the lower, by their numbers.
 lower_first : (actions methods : ℕ) (x y : Move) → Known actions methods x → Known actions methods y
-    → cond (ltb 0 (action_number x)) (ltb (action_number x) (action_number y)) false
-    ≡ (ltb (move_number x) (move_number y) && (is_action (known_of x) && is_action (known_of y)))
+    → lower_action x y ≡ (ltb (move_number x) (move_number y) && (is_action (known_of x) && is_action (known_of y)))
 unfolding is_action
 lower_first actions methods Release y h k = and_no (ltb 0 (move_number y))
-lower_first actions methods (Act i) Release h k = rw (lt-ltb 0 i h.0, le-ltb i 0 (omega arith))
-lower_first actions methods (Act i) (Act j) h k = rw (lt-ltb 0 i h.0) (and_yes (ltb i j))
-lower_first actions methods (Act i) (Use j) h k = rw (lt-ltb 0 i h.0, le-ltb i 0 (omega arith)) (and_no (ltb i (Run.first_method + j)))
+lower_first actions methods (Act i) Release h k = rw (le-ltb i 0 (omega arith))
+lower_first actions methods (Act i) (Act j) h k = and_yes (ltb i j)
+lower_first actions methods (Act i) (Use j) h k = and_no (ltb i (Run.first_method + j))
 lower_first actions methods (Use i) y h k = and_no (ltb (Run.first_method + i) (move_number y))
 
-by_tests : (a b : Bool) {c e : Bool} → c ≡ e → cond a true (cond b c false) ≡ (a || (b && e))
-by_tests true b p = refl
-by_tests false true p = p
-by_tests false false p = refl
+-- At one place it is the moves that say which goes first, and else the places.
+by_tests : (p q : ℕ) {c e : Bool} → c ≡ e → cond (eqb p q) c (ltb p q) ≡ (ltb p q || (eqb p q && e))
+by_tests p q {c} {e} r = go (eqb p q) refl
+  where
+    go : (b : Bool) → eqb p q ≡ b → cond b c (ltb p q) ≡ (ltb p q || (b && e))
+    go true h = let z : ltb p q ≡ false = le-ltb p q (omega (arith, eqb-true p q h)) in rw z r
+    go false h = go_none (ltb p q)
+      where
+        go_none : (b : Bool) → b ≡ (b || false)
+        go_none true = refl
+        go_none false = refl
 
--- `earlier_choice` test by test, as the code asks.
-module _ (y x : Choice) where
-  abbrev q : ℕ
-  q = y.place.0
-
-  abbrev p : ℕ
-  p = x.place.0
-
-  pub earlier_below : p < q → true ≡ earlier_choice y x
-  earlier_below h = rw (lt-ltb p q h)
-
-  pub earlier_above : q ≤ p → (p ≡ q → ⊥) → false ≡ earlier_choice y x
-  earlier_above h n = rw (le-ltb p q h, ne_eqb p q n)
-
-  module _ (e : p ≡ q) {a : ℕ} (r : a ≡ action_number x.mv) where
-    pub earlier_other : a ≤ 0 → false ≡ earlier_choice y x
-    earlier_other h = rw (le-ltb p q (omega arith), eq-eqb p q e, le-ltb 0 (action_number x.mv) (omega arith))
-
-    pub earlier_action : 0 < a → {b : ℕ} → b ≡ action_number y.mv → ltb a b ≡ earlier_choice y x
-    earlier_action h t = rw (r, t, le-ltb p q (omega arith), eq-eqb p q e, lt-ltb 0 (action_number x.mv) (omega arith))
-
-  -- A step that would go before the last one stands no higher.
-  pub earlier_inside : earlier_choice y x ≡ true → p ≤ q
-  earlier_inside h = go (ltb p q) (eqb p q) refl refl h
-    where
-      go : (a b : Bool) → ltb p q ≡ a → eqb p q ≡ b
-          → cond a true (cond b (cond (ltb 0 (action_number x.mv)) (ltb (action_number x.mv) (action_number y.mv)) false) false) ≡ true → p ≤ q
-      go true b e f h = omega (arith, ltb-true p q e)
-      go false true e f h = omega (arith, eqb-true p q f)
-      go false false e f h = absurd (false_not_true _ refl h)
+-- A step that would go before the last one stands no higher.
+pub earlier_inside : (y x : Choice) → earlier_choice y x ≡ true → x.place.0 ≤ y.place.0
+earlier_inside y x h = go (eqb x.place.0 y.place.0) refl h
+  where
+    go : (b : Bool) → eqb x.place.0 y.place.0 ≡ b → cond b (lower_action x.mv y.mv) (ltb x.place.0 y.place.0) ≡ true → x.place.0 ≤ y.place.0
+    go true e h = omega (arith, eqb-true x.place.0 y.place.0 e)
+    go false e h = omega (arith, ltb-true x.place.0 y.place.0 h)
 
 module _ {shop order table : List ℕ} (ix : Indexed shop order table) where
   abbrev Moves : Move → Type 0
@@ -100,4 +82,4 @@ module _ {shop order table : List ℕ} (ix : Indexed shop order table) where
   unfolding is_earlier
   earlier_is y x h k =
       rw (number_read x.mv k, number_read y.mv h)
-      (by_tests (ltb x.place.0 y.place.0) (eqb x.place.0 y.place.0) (lower_first (action_count shop) (method_count shop) x.mv y.mv k h))
+      (by_tests x.place.0 y.place.0 (lower_first (action_count shop) (method_count shop) x.mv y.mv k h))

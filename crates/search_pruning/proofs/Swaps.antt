@@ -2,14 +2,16 @@
 use Prim.Native.Nat.{ℕ, ◌<◌}
 use native.Mathlib.Omega.{arith}
 use mathlib.Core.Path.{◌≡◌, refl, sym, ap, ap₂, ◌∙◌}
-use mathlib.Core.Bool.{Bool, true, false}
-use mathlib.Core.List.{List}
+use mathlib.Core.Bool.{Bool, true, false, ◌&&◌, beq}
+use mathlib.Core.List.{List, [], ◌∷◌}
 use lib.Dec.{eqb}
+use lib.Pointwise.{pointwise}
 use Rattle.hgn.specs.Meaning.{Domain}
-use Rattle.hgn.specs.State.{State}
+use Rattle.hgn.specs.State.{State, γ}
 use Rattle.hgn.specs.Network as Network
 use Rattle.hgn.specs.Network.{free, goal_at}
 use Rattle.hgn.specs.Run as Run
+use Rattle.hgn.specs.Run.{action_at}
 use Rattle.hgn.specs.Shop.{domain, action_count, method_count}
 use Rattle.sheet_rows.proofs.Laws.{told}
 use Rattle.network.specs.Entries.{waiting_of}
@@ -23,47 +25,44 @@ use Rattle.network.specs.declared.waiting.Entry.{Entry}
 use Rattle.network.specs.Goals.{count_in, entry_in, pending_in, list_in}
 use Rattle.network.proofs.WaitingGoals.{list_at, free_at}
 use Rattle.search_theory.specs.Rules.{ready, state_after, same_state, commute, commutes_with_last}
-use Rattle.search_pruning.specs.Tests.{action_number, step_of, earlier_choice, swap_ready}
+use Rattle.search_pruning.specs.Tests.{step_of, earlier_choice, swap_ready}
 use Rattle.search_pruning.proofs.Reading.{number_read, earlier_inside, earlier_is}
+use Rattle.network.specs.declared.goals.Goals.{Goals}
 
-module _ (shop : List ℕ) (s : State) where
-  abbrev Moves : Move → Type 0
-  Moves m = Known (action_count shop) (method_count shop) m
-
-  -- Moves that are not both actions.
-  pub commute_first : (y x : Move) → Moves y → {m : ℕ} → m ≡ action_number y → m ≡ 0 → true ≡ commute (domain shop) s (known_of y) (known_of x)
-  unfolding commute
-  commute_first Release x h a e = refl
-  commute_first (Act k) x h a e = absurd (omega arith)
-  commute_first (Use k) x h a e = refl
-
-  pub commute_second : (y x : Move) → Moves x → {m : ℕ} → m ≡ action_number x → m ≡ 0 → true ≡ commute (domain shop) s (known_of y) (known_of x)
-  unfolding commute
-  commute_second Release x h a e = refl
-  commute_second (Act j) Release h a e = refl
-  commute_second (Act j) (Act k) h a e = absurd (omega arith)
-  commute_second (Act j) (Use k) h a e = refl
-  commute_second (Use j) x h a e = refl
+-- Two states are compared atom by atom.
+same_pointwise : (a b : State) → pointwise beq a b ≡ same_state a b
+unfolding same_state
+same_pointwise [] [] = refl
+same_pointwise [] (y ∷ b) = refl
+same_pointwise (x ∷ a) [] = refl
+same_pointwise (x ∷ a) (y ∷ b) = ap (λ (r : Bool). beq x y && r) (same_pointwise a b)
 
 module _ (d : Domain) (s : State) where
-  both_actions : (y x : Move) → (action_number y ≡ 0 → ⊥) → (action_number x ≡ 0 → ⊥)
-      → same_state (state_after d (state_after d s (known_of x)) (known_of y)) (state_after d (state_after d s (known_of y)) (known_of x))
-      ≡ commute d s (known_of y) (known_of x)
+  -- Moves that are not both actions.
+  pub commute_first : (y x : Move) → ((k : ℕ) → y ≡ Act k → ⊥) → true ≡ commute d s (known_of y) (known_of x)
   unfolding commute
-  both_actions Release x h k = absurd (h refl)
-  both_actions (Act i) Release h k = absurd (k refl)
-  both_actions (Act i) (Act j) h k = refl
-  both_actions (Act i) (Use j) h k = absurd (k refl)
-  both_actions (Use i) x h k = absurd (h refl)
+  commute_first Release x n = refl
+  commute_first (Act k) x n = absurd (n k refl)
+  commute_first (Use k) x n = refl
+
+  pub commute_second : (y x : Move) → ((k : ℕ) → x ≡ Act k → ⊥) → true ≡ commute d s (known_of y) (known_of x)
+  unfolding commute
+  commute_second Release x n = refl
+  commute_second (Act j) Release n = refl
+  commute_second (Act j) (Act k) n = absurd (n k refl)
+  commute_second (Act j) (Use k) n = refl
+  commute_second (Use j) x n = refl
 
   -- Two actions, by the states that the code makes.
-  pub commute_both : (y x : Move) {m n : ℕ} → m ≡ action_number y → (m ≡ 0 → ⊥) → n ≡ action_number x → (n ≡ 0 → ⊥)
-      → {first then other second : State} → first ≡ state_after d s (known_of x) → then ≡ state_after d first (known_of y)
-      → other ≡ state_after d s (known_of y) → second ≡ state_after d other (known_of x)
-      → {r : Bool} → r ≡ same_state then second → r ≡ commute d s (known_of y) (known_of x)
-  commute_both y x a h b k f t o u p =
-      p ∙ ap₂ same_state (t ∙ ap (λ (z : State). state_after d z (known_of y)) f) (u ∙ ap (λ (z : State). state_after d z (known_of x)) o)
-      ∙ both_actions y x (λ e. h (a ∙ e)) (λ e. k (b ∙ e))
+  pub commute_both : {y x : Move} {j k : ℕ} → y ≡ Act j → x ≡ Act k
+      → {first then other second : State} → first ≡ γ s (action_at d k).effects → then ≡ γ first (action_at d j).effects
+      → other ≡ γ s (action_at d j).effects → second ≡ γ other (action_at d k).effects
+      → {r : Bool} → r ≡ pointwise beq then second → r ≡ commute d s (known_of y) (known_of x)
+  unfolding commute state_after
+  commute_both {j = j} {k = k} e f a b c g p =
+      rw (e, f)
+      (p ∙ same_pointwise _ _
+      ∙ ap₂ same_state (b ∙ ap (λ (z : State). γ z (action_at d j).effects) a) (g ∙ ap (λ (z : State). γ z (action_at d k).effects) c))
 
   -- The code's three questions.
   module _ (h g : Network.Waiting) (y x : Run.Move) {a : Bool} (p : a ≡ ready d s g x) where
@@ -85,7 +84,7 @@ pub ready_at : (shop order : List ℕ) (d : Domain) (s : State) (x : Run.Move) {
     → r ≡ ready d s (waiting_of shop order goal) x → r ≡ ready d s (waiting_of shop order here) x
 ready_at shop order d s x e p = p ∙ ap (λ (g : Entry). ready d s (waiting_of shop order g) x) e
 
-module _ {shop order table : List ℕ} (ix : Indexed shop order table) (s : State) {ws : List ℕ} (k : ValidGoals shop order ws) (y x : Choice) (inside : y.place.0 < count_in ws)
+module _ {shop order table : List ℕ} (ix : Indexed shop order table) (s : State) {ws : Goals} (k : ValidGoals shop order ws) (y x : Choice) (inside : y.place.0 < count_in ws)
     (ky : Known (action_count shop) (method_count shop) y.mv) (kx : Known (action_count shop) (method_count shop) x.mv) {a : Bool} (f : a ≡ earlier_choice y x) where
   abbrev Could : Bool → Type 0
   Could r = r ≡ commutes_with_last (domain shop) (problem_with shop order s ws) (step_of y) (step_of x)
@@ -100,7 +99,7 @@ module _ {shop order table : List ℕ} (ix : Indexed shop order table) (s : Stat
 
     module _ {c : Bool} (g : c ≡ eqb (pending_in ws x.place.0) 0) where
       free_is : {v : Bool} → c ≡ v → free (list_in shop order ws) (goal_at (list_in shop order ws) x.place.0) ≡ v
-      free_is e = sym (free_at shop order ws k.within k.counted x.place.0 below) ∙ told g e
+      free_is e = sym (free_at shop order ws k.counted x.place.0 below) ∙ told g e
 
       pub not_free_then : c ≡ false → Could false
       unfolding commutes_with_last

@@ -1,5 +1,5 @@
 -- The code's moves and tests, as the rules have them.
-use Rattle.std.specs.Prelude.{ℕ, ◌+◌, ◌-◌, Bool, true, false, cond, ◌&&◌, eqb, leb, ltb}
+use Rattle.std.specs.Prelude.{ℕ, ◌+◌, ◌-◌, Bool, false, cond, ◌&&◌, eqb, leb, ltb}
 use Rattle.hgn.specs.Meaning.{Domain}
 use Rattle.hgn.specs.State.{State}
 use Rattle.hgn.specs.Network.{Waiting}
@@ -20,11 +20,13 @@ move_number Release = 0
 move_number (Act k) = k
 move_number (Use m) = first_method + m
 
--- The number of an action, 0 for another move.
-abbrev pub action_number : Move → ℕ
-action_number Release = 0
-action_number (Act k) = k
-action_number (Use m) = 0
+-- Both moves are actions, and the first has the lower number.
+abbrev pub lower_action : Move → Move → Bool
+lower_action (Act j) (Act k) = ltb j k
+lower_action (Act j) Release = false
+lower_action (Act j) (Use m) = false
+lower_action Release y = false
+lower_action (Use m) y = false
 
 -- A choice, as a step of the definitions.
 abbrev pub step_of : Choice → Step
@@ -32,9 +34,7 @@ step_of x = step (move_number x.mv) x.place.0
 
 -- `is_earlier` of the rules: `x` would go before `y`.
 abbrev pub earlier_choice : Choice → Choice → Bool
-earlier_choice y x =
-    cond (ltb x.place.0 y.place.0) true
-    (cond (eqb x.place.0 y.place.0) (cond (ltb 0 (action_number x.mv)) (ltb (action_number x.mv) (action_number y.mv)) false) false)
+earlier_choice y x = cond (eqb x.place.0 y.place.0) (lower_action x.mv y.mv) (ltb x.place.0 y.place.0)
 
 -- More goals wait after the move than the `left` steps after it. `count` goals wait before it.
 unfoldable pub crowded : ℕ → ℕ → Run.Move → Bool

@@ -9,15 +9,15 @@ pub fn nth(i: u16, actions: u16) -> Move
     ensures { result ≡ nth_move i actions }
 {
     if i == 0 {
-        return Move::Release;
+        Move::Release
+    } else if i <= actions {
+        Move::Act(i)
+    } else {
+        Move::Use(i - actions - 1)
     }
-    if i <= actions {
-        return Move::Act(i);
-    }
-    Move::Use(i - actions - 1)
 }
 
-// The number that stands for a move.
+// The number that stands for a move. It is no `From`, which could not ask that the number is a word.
 pub fn number_of(mv: Move) -> u16
     requires { move_number mv < 65536 }
     ensures { result ≡ move_number mv }

@@ -8,30 +8,29 @@ ghost use Rattle.hgn.specs.Network.{free as freeIn};
 ghost use Rattle.hgn.specs.Shop.{domain, action_count, method_count};
 ghost use Rattle.hgn.specs.Replay.{rules_of};
 ghost use Rattle.network.specs.Entries.{waiting_of};
-ghost use Rattle.sheet_index.specs.Index.{part_rows, Lies};
+ghost use Rattle.sheet_index.specs.Index.{rows_in};
 ghost use Rattle.sheet_index.specs.Tables.{Indexed};
 ghost use Rattle.step.specs.Moves.{Known, known_of};
 ghost use Rattle.step.specs.Taking.{problem_with, ValidGoals};
-ghost use Rattle.network.specs.Goals.{count_in, entry_in, list_in, Within};
+ghost use Rattle.network.specs.Goals.{count_in, entry_in, list_in};
 ghost use Rattle.search_theory.specs.Rules as Rules;
-ghost use Rattle.search_pruning.specs.Tests.{step_of, action_number, earlier_choice, swap_ready, crowded as isCrowded};
+ghost use Rattle.search_pruning.specs.Tests.{step_of, earlier_choice, swap_ready, crowded as isCrowded};
 ghost use Rattle.hgn.specs.Search.{most_depth};
 
-use network::goals;
 use network::goals::Goals;
 use network::waiting::{Entry, Place};
 use sheet_check::check::Shop;
-use sheet_index::index::Part;
 use sheet_index::operators;
-use sheet_rows::tag;
+use sheet_index::rows::Rows;
+use state::literals::LiteralTags;
 use state::{literals, parts};
 use step::moves::{Choice, Move};
 use step::problem;
 
 // What a move asks of the state at a goal: that it holds, or that the needs do.
-pub fn ready<'a>(
-    shop: &'a [u16],
-    order: &'a [u16],
+pub fn ready(
+    shop: &[u16],
+    order: &[u16],
     tables: &[u16],
     atoms: &[bool; Shop::MOST_ATOMS as usize],
     goal: Entry,
@@ -41,18 +40,15 @@ pub fn ready<'a>(
     ensures { result ≡ Rules.ready (domain shop.now) atoms.now (waiting_of shop.now order.now goal) (known_of mv) }
 {
     match mv {
-        Move::Release => {
-            let rows = goal.rows;
-            parts::goal_holds(atoms, shop, order, rows)
-        }
+        Move::Release => parts::goal_holds(atoms, shop, order, goal.rows),
         Move::Act(action) => {
             let rows = operators::action_part(shop, tables, action);
-            literals::all_hold(atoms, shop, rows, tag::NEEDS_TRUE, tag::NEEDS_FALSE)
+            literals::all_hold(atoms, rows, LiteralTags::NEEDS)
         }
         Move::Use(method) => {
             let rows = operators::method_rows(shop, tables, method);
-            let head = Part::of_shop(shop, rows.from, rows.first);
-            literals::all_hold(atoms, shop, head, tag::NEEDS_TRUE, tag::NEEDS_FALSE)
+            let head = Rows::of_shop(shop, rows.from, rows.first);
+            literals::all_hold(atoms, head, LiteralTags::NEEDS)
         }
     }
 }
@@ -64,15 +60,14 @@ pub fn crowded(left: u16, count: u16, mv: Move) -> bool
 {
     match mv {
         Move::Release => left + 1 < count,
-        Move::Act(action) => left < count,
-        Move::Use(method) => left < count,
+        _ => left < count,
     }
 }
 
 // The action's effects hold already, so it leaves the state as it was.
-pub fn has_no_effect<'a>(
-    shop: &'a [u16],
-    order: &'a [u16],
+pub fn has_no_effect(
+    shop: &[u16],
+    order: &[u16],
     tables: &[u16],
     atoms: &[bool; Shop::MOST_ATOMS as usize],
     mv: Move,
@@ -81,38 +76,26 @@ pub fn has_no_effect<'a>(
     ensures { result ≡ Rules.has_no_effect (domain shop.now) atoms.now (known_of mv) }
 {
     match mv {
-        Move::Release => false,
         Move::Act(action) => {
             let rows = operators::action_part(shop, tables, action);
-            literals::all_hold(atoms, shop, rows, tag::MAKES_TRUE, tag::MAKES_FALSE)
+            literals::all_hold(atoms, rows, LiteralTags::EFFECTS)
         }
-        Move::Use(method) => false,
+        _ => false,
     }
 }
 
 // An action with these rows is relevant to a free goal at a place below this one.
-fn relevant_lower<'a>(
-    shop: &'a [u16],
-    order: &'a [u16],
-    goals: &[u16; Goals::WORDS],
-    rows: Part,
-    place: Place,
-) -> bool
-    requires { ValidGoals shop.now order.now goals.now × (place.0 ≤ count_in goals.now) × Lies shop.now rows }
+fn relevant_lower(shop: &[u16], order: &[u16], goals: &Goals, rows: Rows, place: Place) -> bool
+    requires { ValidGoals shop.now order.now goals.now × (place.0 ≤ count_in goals.now) }
     ensures { result ≡ any
-        (λ g. relevant (literalsOf Tag.makes_true Tag.makes_false (part_rows shop.now rows)) g.formula
+        (λ g. relevant (literalsOf Tag.makes_true Tag.makes_false (rows_in rows.entry)) g.formula
         && freeIn (list_in shop.now order.now goals.now) g)
         (take place.0 (list_in shop.now order.now goals.now)) }
 {
-    let end = place.0;
-    let mut i: u16 = 0;
-    while i < end {
-        let here = i;
-        i += 1;
-        if goals::is_free(goals, Place(here)) {
-            let goal = goals::entry_at(goals, Place(here));
-            let wants = goal.rows;
-            if parts::relevant_to(shop, order, rows, tag::MAKES_TRUE, tag::MAKES_FALSE, wants) {
+    for i in 0..place.0 {
+        if goals.is_free(Place(i)) {
+            let goal = goals.entry_at(Place(i));
+            if parts::relevant_to(shop, order, rows, LiteralTags::EFFECTS, goal.rows) {
                 return true;
             }
         }
@@ -121,46 +104,32 @@ fn relevant_lower<'a>(
 }
 
 // A free goal at a lower place has the action relevant too.
-pub fn lower_too<'a>(
-    shop: &'a [u16],
-    order: &'a [u16],
-    tables: &[u16],
-    goals: &[u16; Goals::WORDS],
-    choice: Choice,
-) -> bool
+pub fn lower_too(shop: &[u16], order: &[u16], tables: &[u16], goals: &Goals, choice: Choice) -> bool
     requires indexed { Indexed shop.now order.now tables.now × Known (action_count shop.now) (method_count shop.now) choice.mv }
     requires valid_goals { ValidGoals shop.now order.now goals.now × (choice.place.0 ≤ count_in goals.now) }
     ensures { result ≡ Rules.lower_too (rules_of shop.now) (list_in shop.now order.now goals.now) choice.place.0 (known_of choice.mv) }
 {
-    let mv = choice.mv;
-    match mv {
-        Move::Release => false,
+    match choice.mv {
         Move::Act(action) => {
             let rows = operators::action_part(shop, tables, action);
             relevant_lower(shop, order, goals, rows, choice.place)
         }
-        Move::Use(method) => false,
+        _ => false,
     }
 }
 
 // Every waiting goal holds.
-fn goals_hold<'a>(
-    shop: &'a [u16],
-    order: &'a [u16],
+fn goals_hold(
+    shop: &[u16],
+    order: &[u16],
     atoms: &[bool; Shop::MOST_ATOMS as usize],
-    goals: &[u16; Goals::WORDS],
+    goals: &Goals,
 ) -> bool
-    requires { Within goals.now }
     ensures { result ≡ all (λ g. formula_holds atoms.now g.formula) (list_in shop.now order.now goals.now) }
 {
-    let count = goals::count_of(goals);
-    let mut i: u16 = 0;
-    while i < count {
-        let goal = goals::entry_at(goals, Place(i));
-        let rows = goal.rows;
-        if parts::goal_holds(atoms, shop, order, rows) {
-            i += 1;
-        } else {
+    for i in 0..goals.len() {
+        let goal = goals.entry_at(Place(i));
+        if !parts::goal_holds(atoms, shop, order, goal.rows) {
             return false;
         }
     }
@@ -168,64 +137,36 @@ fn goals_hold<'a>(
 }
 
 // Too few steps are left for the goals that wait: each takes a release, and one more step is wanted where one of them does not hold.
-pub fn too_few_left<'a>(
-    shop: &'a [u16],
-    order: &'a [u16],
+pub fn too_few_left(
+    shop: &[u16],
+    order: &[u16],
     atoms: &[bool; Shop::MOST_ATOMS as usize],
-    goals: &[u16; Goals::WORDS],
+    goals: &Goals,
     left: u16,
 ) -> bool
-    requires { Within goals.now }
     ensures { result ≡ Rules.too_few_left left (problem_with shop.now order.now atoms.now goals.now) }
 {
-    let count = goals::count_of(goals);
-    if left < count {
-        return true;
-    }
-    if left == count {
-        if goals_hold(shop, order, atoms, goals) {
-            return false;
-        }
-        return true;
-    }
-    false
-}
-
-// The number of an action, 0 for another move.
-fn action_of(mv: Move) -> u16
-    ensures { result ≡ action_number mv }
-{
-    match mv {
-        Move::Release => 0,
-        Move::Act(action) => action,
-        Move::Use(method) => 0,
-    }
+    let count = goals.len();
+    left < count || (left == count && !goals_hold(shop, order, atoms, goals))
 }
 
 // A step after the last one would come earlier in the order on traces if it were taken first.
 fn is_earlier(last: Choice, choice: Choice) -> bool
     ensures { result ≡ earlier_choice last choice }
 {
-    let place = choice.place;
-    let mv = choice.mv;
-    let last_place = last.place;
-    let last_mv = last.mv;
-    if place.0 < last_place.0 {
-        return true;
+    if choice.place.0 != last.place.0 {
+        return choice.place.0 < last.place.0;
     }
-    if place.0 == last_place.0 {
-        let action = action_of(mv);
-        if 0 < action {
-            return action < action_of(last_mv);
-        }
+    match (choice.mv, last.mv) {
+        (Move::Act(action), Move::Act(last_action)) => action < last_action,
+        _ => false,
     }
-    false
 }
 
 // A move changes the state where it stands: an action by its effects, another move not at all.
-fn change<'a>(
-    shop: &'a [u16],
-    order: &'a [u16],
+fn change(
+    shop: &[u16],
+    order: &[u16],
     tables: &[u16],
     atoms: &mut [bool; Shop::MOST_ATOMS as usize],
     mv: Move,
@@ -233,34 +174,15 @@ fn change<'a>(
     requires { Indexed shop.now order.now tables.now × Known (action_count shop.now) (method_count shop.now) mv }
     ensures { atoms.new ≡ Rules.state_after (domain shop.now) atoms.old (known_of mv) }
 {
-    match mv {
-        Move::Release => {}
-        Move::Act(action) => {
-            problem::act(atoms, shop, order, tables, action);
-        }
-        Move::Use(method) => {}
+    if let Move::Act(action) = mv {
+        problem::act(atoms, shop, order, tables, action);
     }
-}
-
-// Two states have the same atoms true. They are handed over, since only of an array that is held is its length known.
-fn same_state(a: [bool; Shop::MOST_ATOMS as usize], b: [bool; Shop::MOST_ATOMS as usize]) -> bool
-    ensures { result ≡ Rules.same_state a b }
-{
-    let mut i = 0;
-    while i < Shop::MOST_ATOMS as usize {
-        if a[i] == b[i] {
-            i += 1;
-        } else {
-            return false;
-        }
-    }
-    true
 }
 
 // Two moves, one after the other in either order, leave the same state. Only of two actions is that a question.
-fn commute<'a>(
-    shop: &'a [u16],
-    order: &'a [u16],
+fn commute(
+    shop: &[u16],
+    order: &[u16],
     tables: &[u16],
     atoms: &[bool; Shop::MOST_ATOMS as usize],
     last: Move,
@@ -269,58 +191,54 @@ fn commute<'a>(
     requires { Indexed shop.now order.now tables.now × Known (action_count shop.now) (method_count shop.now) last × Known (action_count shop.now) (method_count shop.now) mv }
     ensures { result ≡ Rules.commute (domain shop.now) atoms.now (known_of last) (known_of mv) }
 {
-    if action_of(last) == 0 {
-        return true;
+    match (last, mv) {
+        (Move::Act(last_action), Move::Act(action)) => {
+            let mut swapped = *atoms;
+            problem::act(&mut swapped, shop, order, tables, action);
+            problem::act(&mut swapped, shop, order, tables, last_action);
+            let mut taken = *atoms;
+            problem::act(&mut taken, shop, order, tables, last_action);
+            problem::act(&mut taken, shop, order, tables, action);
+            swapped == taken
+        }
+        _ => true,
     }
-    if action_of(mv) == 0 {
-        return true;
-    }
-    let mut swapped = *atoms;
-    change(shop, order, tables, &mut swapped, mv);
-    change(shop, order, tables, &mut swapped, last);
-    let mut taken = *atoms;
-    change(shop, order, tables, &mut taken, last);
-    change(shop, order, tables, &mut taken, mv);
-    same_state(swapped, taken)
 }
 
 // Both moves ask nothing that fails where this one is taken before the last, and they leave the same state.
-fn swap_ready<'a>(
-    shop: &'a [u16],
-    order: &'a [u16],
+fn swap_ready(
+    shop: &[u16],
+    order: &[u16],
     tables: &[u16],
     atoms: &[bool; Shop::MOST_ATOMS as usize],
-    goals: &[u16; Goals::WORDS],
+    goals: &Goals,
     last: Choice,
     choice: Choice,
 ) -> bool
-    requires indexed { Indexed shop.now order.now tables.now × Within goals.now × (last.place.0 < count_in goals.now) × (choice.place.0 < count_in goals.now) }
+    requires indexed { Indexed shop.now order.now tables.now × (last.place.0 < count_in goals.now) × (choice.place.0 < count_in goals.now) }
     requires known { Known (action_count shop.now) (method_count shop.now) last.mv × Known (action_count shop.now) (method_count shop.now) choice.mv }
     ensures { result ≡ swap_ready (domain shop.now) atoms.now
         (waiting_of shop.now order.now (entry_in goals.now last.place.0)) (known_of last.mv)
         (waiting_of shop.now order.now (entry_in goals.now choice.place.0)) (known_of choice.mv) }
 {
-    let mv = choice.mv;
-    let last_mv = last.mv;
-    let goal = goals::entry_at(goals, choice.place);
-    if ready(shop, order, tables, atoms, goal, mv) {
-        let mut next = *atoms;
-        change(shop, order, tables, &mut next, mv);
-        let last_goal = goals::entry_at(goals, last.place);
-        if ready(shop, order, tables, &next, last_goal, last_mv) {
-            return commute(shop, order, tables, atoms, last_mv, mv);
-        }
+    let goal = goals.entry_at(choice.place);
+    if !ready(shop, order, tables, atoms, goal, choice.mv) {
+        return false;
     }
-    false
+    let mut next = *atoms;
+    change(shop, order, tables, &mut next, choice.mv);
+    let last_goal = goals.entry_at(last.place);
+    ready(shop, order, tables, &next, last_goal, last.mv)
+        && commute(shop, order, tables, atoms, last.mv, choice.mv)
 }
 
 // The step could have been taken before the last one with the same result. The last one was taken from this state and these goals.
-pub fn commutes_with_last<'a>(
-    shop: &'a [u16],
-    order: &'a [u16],
+pub fn commutes_with_last(
+    shop: &[u16],
+    order: &[u16],
     tables: &[u16],
     atoms: &[bool; Shop::MOST_ATOMS as usize],
-    goals: &[u16; Goals::WORDS],
+    goals: &Goals,
     last: Choice,
     choice: Choice,
 ) -> bool
@@ -329,10 +247,7 @@ pub fn commutes_with_last<'a>(
     ensures { result ≡ Rules.commutes_with_last (domain shop.now)
         (problem_with shop.now order.now atoms.now goals.now) (step_of last) (step_of choice) }
 {
-    if is_earlier(last, choice) {
-        if goals::is_free(goals, choice.place) {
-            return swap_ready(shop, order, tables, atoms, goals, last, choice);
-        }
-    }
-    false
+    is_earlier(last, choice)
+        && goals.is_free(choice.place)
+        && swap_ready(shop, order, tables, atoms, goals, last, choice)
 }

@@ -10,25 +10,8 @@ use Rattle.search_theory.proofs.Pruned.{pruned_searched}
 use Rattle.replay.proofs.TakenSteps.{going_first}
 use Rattle.search.proofs.shortest.search_indexed.Goals as goal
 
-pub begun-requires : goal.begun-requires
-begun-requires c =
-    record {
-      order_value = c.requires.order_value.0;
-      most_methods_in_bounds = (c.requires.most_methods_in_bounds, c.empty-goals.ensures.0.size);
-    }
-
-pub start-atoms-requires : goal.start-atoms-requires
-start-atoms-requires c = c.requires.order_value.0
-
-pub fill_table-requires : goal.fill_table-requires
-fill_table-requires c = c.begun.ensures.0
-
 pub deepen-requires : goal.deepen-requires
-deepen-requires c =
-    record {
-      lent = record { indexed = c.begun.ensures.0; achievers = c.fill_table.ensures };
-      going = (going_first _ c.begun.ensures.1, c.requires.order_value.1);
-    }
+deepen-requires c = (going_first _ c.begun.ensures.1, c.requires.order_value.1)
 
 pub returns : goal.returns
 returns c = (

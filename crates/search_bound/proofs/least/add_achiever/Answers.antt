@@ -1,22 +1,14 @@
--- Where the table names an action, it is the literal's only achiever; where it has 0, there is none. Assumes nothing.
+-- Where the table names an action alone, it is needed; where it names none, no trace is accepted. Assumes nothing.
+use native.Mathlib.Omega.{arith}
+use mathlib.Core.Path.{sym}
 use Rattle.search_bound.proofs.NeededMoves.{achiever_added, achiever_none}
 use Rattle.search_bound.proofs.least.add_achiever.Goals as goal
 
-pub returns-then-atom-ge-MOST_ATOMS : goal.returns-then-atom-ge-MOST_ATOMS
-returns-then-atom-ge-MOST_ATOMS c shop P is e o h k = k
+pub returns-in-None : goal.returns-in-None
+returns-in-None c shop P is e o h k =
+    achiever_none shop P c.args.table.now _ (omega arith) c.holds.ensures c.if-holds.false is o h (sym c.in-None.ensures) c.give_up.ensures k
 
-pub returns-then-holds : goal.returns-then-holds
-returns-then-holds c shop P is e o h k = k
-
-pub returns-then-action-eq0 : goal.returns-then-action-eq0
-returns-then-action-eq0 c shop P is e o h k =
-    achiever_none shop P c.args.table.now _ _ _ c.if-atom-ge-MOST_ATOMS.false c.holds.ensures c.if-holds.false c.index_of-at.ensures.0
-    c.if-action-eq0.true c.give_up.ensures is o h k
-
-pub returns-then-actions-action : goal.returns-then-actions-action
-returns-then-actions-action c shop P is e o h k = k
-
-pub returns : goal.returns
-returns c shop P is e o h k =
-    achiever_added shop P c.args.table.now _ _ _ c.if-atom-ge-MOST_ATOMS.false c.holds.ensures c.if-holds.false c.index_of-at.ensures.0
-    c.if-action-eq0.false c.if-actions-action.false c.add.ensures is e o h k
+pub returns-in-Only : goal.returns-in-Only
+returns-in-Only c shop P is e o h k =
+    achiever_added shop P c.args.table.now _ (omega arith) c.holds.ensures c.if-holds.false is o h (sym c.in-Only.ensures) (omega arith)
+    c.add.ensures k

@@ -5,17 +5,7 @@ use Rattle.hgn.specs.Replay.{rules_of}
 use Rattle.search_bound.proofs.Wants.{entry_wanted}
 use Rattle.search_bound.proofs.least.add_goals.Goals as goal
 
-pub loop-i-init : goal.loop-i-init
-loop-i-init c shop e o h = h
-
-pub entry_at-goal-requires : goal.entry_at-goal-requires
-entry_at-goal-requires c = omega (arith, c.loop-i-test.true, c.count_of-count.ensures, c.requires.few)
-
 pub loop-i-preserved : goal.loop-i-preserved
 loop-i-preserved c shop e o h =
-    c.add_goal.ensures shop _ refl e o
-    (rw c.entry_at-goal.ensures (entry_wanted (rules_of shop) _ _ _ _ _ (omega (arith, c.loop-i-test.true, c.count_of-count.ensures))))
+    c.add_goal.ensures shop _ refl e o (rw c.entry_at-goal.ensures (entry_wanted (rules_of shop) _ _ _ c.args.goals.now _ (omega arith)))
     (c.loop-i.invariant shop e o h)
-
-pub returns : goal.returns
-returns c = c.loop-i.invariant

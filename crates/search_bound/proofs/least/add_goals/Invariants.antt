@@ -1,12 +1,7 @@
 -- What was added so far is needed. Assumes nothing.
-use Prim.Native.Nat.{◌-◌}
 use Rattle.step.specs.Taking.{problem_with}
 use Rattle.search_bound.specs.NeededMoves.{WithGoals}
 use Rattle.search_bound.proofs.least.add_goals.Given as goal
 
 abbrev pub invariant-loop-i : goal.invariant-loop-i
-invariant-loop-i l =
-    WithGoals (problem_with l.shop l.order l.atoms l.goals) l.table l.actions l.initial.moves l.moves
-
-abbrev pub decreases-loop-i : goal.decreases-loop-i
-decreases-loop-i l = l.count - l.i
+invariant-loop-i l = WithGoals (problem_with l.shop l.order l.atoms l.goals) l.table l.actions l.initial.moves l.moves

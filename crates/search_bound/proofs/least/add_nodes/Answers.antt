@@ -10,17 +10,8 @@ use Rattle.search_bound.proofs.NeededMoves.{operator_method}
 use Rattle.search_bound.proofs.Brings.{nodes_all, nodes_next, node_here, node_wanted}
 use Rattle.search_bound.proofs.least.add_nodes.Goals as goal
 
-pub returns-then-operator-actions : goal.returns-then-operator-actions
-returns-then-operator-actions c P is n h = h
-
-pub method_rows-rows-requires : goal.method_rows-rows-requires
-method_rows-rows-requires c = (_, c.requires.indexed, omega (arith, c.if-operator-actions.false, c.of-sizes.ensures.actions, c.requires.known))
-
 pub loop-row-init : goal.loop-row-init
 loop-row-init c = (nodes_all (c.method_rows-rows.ensures _ c.requires.indexed), λ P is n h. h)
-
-pub bounds-tables-here : goal.bounds-tables-here
-bounds-tables-here c = (ahead c.loop-row-test.true c.loop-row.invariant.0.walk).inside
 
 pub loop-row-smaller : goal.loop-row-smaller
 loop-row-smaller c = let f = ahead c.loop-row-test.true c.loop-row.invariant.0.walk in omega (arith, f.grows, f.below)
@@ -30,7 +21,7 @@ loop-row-preserved c =
     let i = c.loop-row.invariant in (
       nodes_next i.0 c.loop-row-test.true,
       λ P is n h.
-          c.add_goal.ensures c.args.shop.now P is ((shop_counts _ (shop_passes c.requires.indexed)).0 ∙ sym c.of-sizes.ensures.actions) c.requires.achievers
+          c.add_goal.ensures c.args.shop.now P is ((shop_counts _ (shop_passes c.requires.indexed)).0 ∙ sym c.of-actions.ensures.actions) c.requires.achievers
           (rw c.of_shop-node.ensures (node_wanted _ P _ _ n (node_here i.0 c.loop-row-test.true)))
           (i.1 P is n h),
     )
@@ -39,4 +30,4 @@ pub returns : goal.returns
 returns c P is n h =
     let a = shop_counts _ (shop_passes c.requires.indexed) in
     c.loop-row.invariant.1 P is
-    (subst (Needed (rules_of c.args.shop.now) P) (operator_method _ _ _ (omega (arith, a, c.if-operator-actions.false, c.of-sizes.ensures.actions))) n) h
+    (subst (Needed (rules_of c.args.shop.now) P) (operator_method _ _ _ (omega (arith, a, c.if-operator-actions.false, c.of-actions.ensures.actions))) n) h

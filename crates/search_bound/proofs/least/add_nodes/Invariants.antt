@@ -8,7 +8,8 @@ use Rattle.search_bound.proofs.least.add_nodes.Given as goal
 
 abbrev pub invariant-loop-row : goal.invariant-loop-row
 invariant-loop-row l =
-    NodesLeft l.shop l.order l.tables (l.operator - l.actions) l.stop l.row × OnwardFrom (rules_of l.shop) l.atoms (use_method (l.operator - l.actions)) l.initial.moves l.moves
+    NodesLeft l.shop l.order l.tables (l.operator - l.actions) l.rows.end.0 l.row
+    × OnwardFrom (rules_of l.shop) l.atoms (use_method (l.operator - l.actions)) l.initial.moves l.moves
 
 abbrev pub decreases-loop-row : goal.decreases-loop-row
-decreases-loop-row l = l.stop - l.row
+decreases-loop-row l = l.rows.end.0 - l.row

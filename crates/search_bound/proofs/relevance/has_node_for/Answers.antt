@@ -2,14 +2,8 @@
 use native.Mathlib.Omega.{arith}
 use Rattle.sheet_rows.proofs.Laws.{told}
 use Rattle.sheet_index.proofs.NodeWalks.{ahead}
-use Rattle.search_bound.proofs.OnlyMethods.{looked_none, looked_found, looked_more, looked_all}
+use Rattle.search_bound.proofs.OnlyMethods.{looked_found, looked_more, looked_all}
 use Rattle.search_bound.proofs.relevance.has_node_for.Goals as goal
-
-pub loop-row-init : goal.loop-row-init
-loop-row-init c = looked_none _ c.requires.0.1
-
-pub bounds-tables-at : goal.bounds-tables-at
-bounds-tables-at c = (ahead c.loop-row-test.true c.loop-row.invariant.onward).inside
 
 pub returns-then-relevant_to : goal.returns-then-relevant_to
 returns-then-relevant_to c bs w = looked_found c.loop-row.invariant c.loop-row-test.true (told (rw c.of_shop-node.ensures at c.relevant_to.ensures) c.if-relevant_to.true) w

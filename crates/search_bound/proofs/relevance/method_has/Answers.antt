@@ -2,12 +2,6 @@
 use Rattle.search_bound.proofs.OnlyMethods.{method_told}
 use Rattle.search_bound.proofs.relevance.method_has.Goals as goal
 
-pub method_rows-rows-requires : goal.method_rows-rows-requires
-method_rows-rows-requires c = (_, c.requires.0, c.requires.1)
-
-pub has_node_for-requires : goal.has_node_for-requires
-has_node_for-requires c = let a = c.method_rows-rows.ensures _ c.requires.0 in ((a.bs, a.walk), c.requires.2)
-
 pub returns : goal.returns
 returns c =
     let a = c.method_rows-rows.ensures _ c.requires.0 in

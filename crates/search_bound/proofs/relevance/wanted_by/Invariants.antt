@@ -1,5 +1,4 @@
 -- Whether a goal wants the action is decided among the goals from `i` on. Assumes nothing.
-use Prim.Native.Nat.{◌-◌}
 use mathlib.Core.Path.{◌≡◌}
 use lib.ListN.{drop}
 use Rattle.hgn.specs.Lists.{any}
@@ -13,6 +12,3 @@ abbrev pub invariant-loop-i : goal.invariant-loop-i
 invariant-loop-i l =
     any (λ g. relevant (action_at (domain l.shop) l.action).effects g.formula) (list_in l.shop l.order l.goals)
     ≡ any (λ g. relevant (action_at (domain l.shop) l.action).effects g.formula) (drop l.i (list_in l.shop l.order l.goals))
-
-abbrev pub decreases-loop-i : goal.decreases-loop-i
-decreases-loop-i l = l.count - l.i

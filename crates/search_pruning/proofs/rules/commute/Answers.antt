@@ -2,25 +2,13 @@
 use Rattle.search_pruning.proofs.Swaps.{commute_first, commute_second, commute_both}
 use Rattle.search_pruning.proofs.rules.commute.Goals as goal
 
-pub returns-then-action_of-eq0 : goal.returns-then-action_of-eq0
-returns-then-action_of-eq0 c = commute_first _ _ c.args.last c.args.mv c.requires.1 c.action_of.ensures c.if-action_of-eq0.true
+pub returns-in-Act-Act : goal.returns-in-Act-Act
+returns-in-Act-Act c =
+    commute_both _ _ c.in-Act-Act.is-0 c.in-Act-Act.is-1 c.act.ensures c.act-in-Act-Act.ensures c.act-in-Act-Act-2.ensures c.act-in-Act-Act-3.ensures
+    c.eq.ensures
 
-pub returns-then-action_of-eq0-2 : goal.returns-then-action_of-eq0-2
-returns-then-action_of-eq0-2 c = commute_second _ _ c.args.last c.args.mv c.requires.2 c.action_of-2.ensures c.if-action_of-eq0-2.true
+pub returns-in_default : goal.returns-in_default
+returns-in_default c = commute_second _ _ _ _ c.in_default.not-Act-1
 
-pub change-requires : goal.change-requires
-change-requires c = (c.requires.0, c.requires.2)
-
-pub change-requires-2 : goal.change-requires-2
-change-requires-2 c = (c.requires.0, c.requires.1)
-
-pub change-requires-3 : goal.change-requires-3
-change-requires-3 c = (c.requires.0, c.requires.1)
-
-pub change-requires-4 : goal.change-requires-4
-change-requires-4 c = (c.requires.0, c.requires.2)
-
-pub returns : goal.returns
-returns c =
-    commute_both _ _ c.args.last c.args.mv c.action_of.ensures c.if-action_of-eq0.false c.action_of-2.ensures c.if-action_of-eq0-2.false
-    c.change.ensures c.change-2.ensures c.change-3.ensures c.change-4.ensures c.same_state.ensures
+pub returns-in_default-2 : goal.returns-in_default-2
+returns-in_default-2 c = commute_first _ _ _ _ c.in_default.not-Act-0
