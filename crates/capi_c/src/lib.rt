@@ -40,9 +40,9 @@ pub extern "C" fn hgn_check_trace(shop: &[u16], order: &[u16], trace: &[u16], an
 // The sheets' questions, then 24 to 33. Accepted, the plan stands in the first words of its room. The header calls it `hgn_replay`, and says
 // when a symbol gets a number.
 #[unsafe(no_mangle)]
-pub extern "C" fn hgn_replay_2<'a>(
-    shop: &'a [u16],
-    order: &'a [u16],
+pub extern "C" fn hgn_replay_2(
+    shop: &[u16],
+    order: &[u16],
     trace: &[u16],
     plan: &mut [u16],
     answer: &mut [u32; 5],
@@ -56,9 +56,9 @@ pub extern "C" fn hgn_replay_2<'a>(
 // Questions 1 to 9 and 11 to 18, then 41 to 43. Found, the trace stands in the first 1 + 2L words of the room. The header calls it
 // `hgn_search`, and says when a symbol gets a number.
 #[unsafe(no_mangle)]
-pub extern "C" fn hgn_search_2<'a>(
-    shop: &'a [u16],
-    order: &'a [u16],
+pub extern "C" fn hgn_search_2(
+    shop: &[u16],
+    order: &[u16],
     depth: u32,
     room: &mut [u16],
     answer: &mut [u32; 2],
@@ -71,10 +71,10 @@ pub extern "C" fn hgn_search_2<'a>(
 // Questions 1 to 9, 11 to 18 of the first order, 11 to 18 of the second, then 81 to 83. Written, the joined sheet stands in the first words
 // of the room.
 #[unsafe(no_mangle)]
-pub extern "C" fn hgn_join<'a>(
-    shop: &'a [u16],
-    first: &'a [u16],
-    second: &'a [u16],
+pub extern "C" fn hgn_join(
+    shop: &[u16],
+    first: &[u16],
+    second: &[u16],
     room: &mut [u16],
     answer: &mut [u32; 2],
 )

@@ -3,31 +3,37 @@ use Prim.Native.Nat.{ℕ, ◌+◌, ◌*◌, ◌<◌, ◌≤◌}
 use native.Mathlib.Omega.{arith}
 use native.Mathlib.Numerals.{add-one}
 use mathlib.Core.Path.{◌≡◌, refl, sym, ap, ◌∙◌}
-use mathlib.Core.Bool.{Bool, cond}
+use mathlib.Core.Bool.{Bool, true, false, cond}
+use Rattle.std.specs.Int.{from_bool}
 use mathlib.Core.List.{List, ◌++◌, append_assoc, append-nil}
 use lib.Dec.{eqb}
 use lib.ListN.{length, take, drop, drop_of_length-le}
 use lib.Seq.{drop-cons}
-use Rattle.hgn.specs.Network.{no_goal, goal_at, method_number}
-use Rattle.network.specs.Entries.{source_of, waiting_of}
+use Rattle.hgn.specs.Network.{no_goal, goal_at, step_number, method_number}
+use Rattle.network.specs.Entries.{source_in, waiting_of}
 use Rattle.network.specs.declared.waiting.Entry.{Entry}
 use Rattle.network.specs.Pending.{PendingCounts}
-use Rattle.network.specs.Goals.{count_in, entry_in, pending_in, list_in, counts_in, Within}
+use Rattle.network.specs.Goals.{count_in, entry_in, pending_in, list_in, counts_in}
 use Rattle.network.proofs.WaitingGoals.{list_length, list_at, free_at}
-use Rattle.listing.proofs.Sources.{step_origin}
+use Rattle.network.specs.declared.goals.Goals.{Goals}
 use Rattle.display_main.specs.Moments.{four_text, goal_text, goals_text, four_bytes}
 use Rattle.display_main.specs.Puts.{GoalPut, GoalsPut}
 
+-- A goal that is free is told by 1, any other by 0.
+flag_is : (is_free : Bool) → from_bool is_free ≡ cond is_free 1 0
+flag_is true = refl
+flag_is false = refl
+
 -- The four numbers that the code reads off a record are those of the goal's line.
-pub goal_is : (ws : List ℕ) (p : ℕ) → Within ws → (front : List ℕ) {text : List ℕ} {flag method : ℕ} {goal : Entry} {is_free : Bool}
-    → goal ≡ entry_in ws p → is_free ≡ eqb (pending_in ws p) 0 → flag ≡ cond is_free 1 0 → method ≡ method_number (source_of goal)
-    → text ≡ front ++ four_text goal.name.number flag goal.name.origin method → GoalPut ws p front text
+pub goal_is : (ws : Goals) (p : ℕ) (front : List ℕ) {text : List ℕ} {flag step method : ℕ} {goal : Entry} {is_free : Bool}
+    → goal ≡ entry_in ws p → is_free ≡ eqb (pending_in ws p) 0 → flag ≡ from_bool is_free → step ≡ step_number (source_in goal.source)
+    → method ≡ method_number (source_in goal.source) → text ≡ front ++ four_text goal.number flag step method → GoalPut ws p front text
 unfolding goal_text waiting_of
-goal_is ws p w front g f k m e shop order counted h =
-    e ∙ rw (k, f, m, g, ← free_at shop order ws w counted p h, list_at shop order ws p h, ← step_origin (entry_in ws p)) refl
+goal_is ws p front g f k b m e shop order counted h =
+    e ∙ rw (k ∙ flag_is _, f, b, m, g, ← free_at shop order ws counted p h, list_at shop order ws p h) refl
 
 -- The text so far: what stood in front, and the lines of the goals passed.
-pub record GoalLines (ws before text : List ℕ) (at end i : ℕ) : Type 0 where
+pub record GoalLines (ws : Goals) (before text : List ℕ) (at end i : ℕ) : Type 0 where
   pub inside : i ≤ count_in ws
   pub few : end ≤ at + four_bytes * i
   pub same : length text ≡ length before
@@ -35,7 +41,7 @@ pub record GoalLines (ws before text : List ℕ) (at end i : ℕ) : Type 0 where
       → take end text ++ goals_text (list_in shop order ws) (drop i (list_in shop order ws))
       ≡ take at before ++ goals_text (list_in shop order ws) (list_in shop order ws)
 
-module _ (ws before : List ℕ) (at : ℕ) where
+module _ (ws : Goals) (before : List ℕ) (at : ℕ) where
   pub goals_none : GoalLines ws before before at at 0
   goals_none = record { inside = omega arith; few = omega arith; same = refl; whole = λ shop order counted. refl }
 

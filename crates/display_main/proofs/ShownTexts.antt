@@ -6,6 +6,7 @@ use mathlib.Core.Path.{◌≡◌, refl, sym, ap, subst, ◌∙◌}
 use mathlib.Core.Logic.{◌≢◌}
 use mathlib.Core.List.{List, [], ◌∷◌, ◌++◌, append-nil}
 use mathlib.Core.Option.{none, some}
+use Rattle.std.specs.Prelude.{Option, None, Some}
 use lib.ListN.{length, length-append, take, drop, length-take}
 use Rattle.hgn.specs.Questions as Questions
 use Rattle.hgn.specs.Questions.{Verdict, passed, answered}
@@ -16,6 +17,8 @@ use Rattle.hgn.specs.Trace.{steps_of, check_trace}
 use Rattle.hgn.specs.Replay.{rules_of}
 use Rattle.sheet_rows.specs.Refusals.{refusal_of}
 use Rattle.sheet_rows.specs.declared.refusal.Refusal.{Refusal}
+use Rattle.sheet_rows.proofs.Laws.{numbered}
+use Rattle.step.specs.Failures.{told_of}
 use Rattle.step.specs.Steps.{problem_in, Comes}
 use Rattle.step.specs.Taking.{Going}
 use Rattle.step.specs.declared.problem.Problem.{Problem}
@@ -28,8 +31,6 @@ use Rattle.display.proofs.Steppings.{display_goes_on}
 use Rattle.display_main.specs.Moments.{moment_text, turn_text, moment_bytes, turn_bytes}
 use Rattle.display_main.specs.Puts.{MomentPut}
 use Rattle.display_main.specs.Shown.{turns_text, steps_text, if_passed, shown_text, Writes, FewBytes, FirstWritten}
-use Rattle.display_main.specs.declared.answer.Shown.{Shown}
-use Rattle.display_main.specs.declared.answer.Shown.TheVariants.{Bytes, Unwritten}
 use Rattle.display_main.proofs.Goings.{going_next}
 
 -- The steps shown so far: they have led to the record, and their bytes and the text from the next step on are the whole text.
@@ -49,6 +50,11 @@ module _ (shop sheet trace : List ℕ) (before : ℕ) where
         whole = ap {B = ℕ} (λ (P : Run.Problem). before + length (turns_text (rules_of shop) 0 P (steps_of trace))) g.0;
       }
 
+  -- A step is read from the trace that is held, and its number is the row's.
+  pub at_step : {n number bytes : ℕ} {b : Problem} {x : Step} {held : List ℕ} → number ≡ n → held ≡ trace → Turning shop sheet trace before n bytes b
+      → row_at held n ≡ some x → Turning shop sheet trace before number bytes b × (row_at trace number ≡ some x)
+  at_step e same t found = (rw e t, rw (e, ← same) found)
+
   -- Behind the last step nothing is left.
   pub turning_over : {n bytes : ℕ} (b : Problem) → Turning shop sheet trace before n bytes b → row_at trace n ≡ none → bytes ≡ before + length (steps_text shop sheet trace)
   unfolding turns_text
@@ -58,7 +64,7 @@ module _ (shop sheet trace : List ℕ) (before : ℕ) where
       omega (arith, t.whole, over)
 
   module _ {n bytes : ℕ} (b : Problem) (t : Turning shop sheet trace before n bytes b) (x : Step) (found : row_at trace n ≡ some x) (shown : Code.Stepped)
-      (f : Forward shop sheet n x b shown.failure shown.problem) where
+      (f : Forward shop sheet n x b shown.answer shown.problem) where
     abbrev rest : List Step
     rest = drop (suc n) (steps_of trace)
 
@@ -70,7 +76,7 @@ module _ (shop sheet trace : List ℕ) (before : ℕ) where
         (row_first trace n x found ∙ ap {B = List Step} (λ (j : ℕ). x ∷ drop j (steps_of trace)) (add-one n))
 
     -- A step that is refused gives its text, and nothing is behind it.
-    ends : shown.failure.refusal.number ≢ 0 → turns_text (rules_of shop) n (problem_in shop sheet b) (x ∷ rest) ≡ text ++ []
+    ends : (told_of shown.answer).refusal.number ≢ 0 → turns_text (rules_of shop) n (problem_in shop sheet b) (x ∷ rest) ≡ text ++ []
     unfolding turns_text
     ends z = go (stepped_at shop sheet n x b) f.comes_to
       where
@@ -83,7 +89,7 @@ module _ (shop sheet trace : List ℕ) (before : ℕ) where
         go (Run.taken deed P) k = absurd (z (ap (λ (q : Questions.Failure). q.refusal.number) k.0))
 
     -- Behind a step that is taken are those from the record that it leaves.
-    goes : shown.failure.refusal.number ≡ 0
+    goes : (told_of shown.answer).refusal.number ≡ 0
         → turns_text (rules_of shop) n (problem_in shop sheet b) (x ∷ rest) ≡ text ++ turns_text (rules_of shop) (suc n) (problem_in shop sheet shown.problem) rest
     unfolding turns_text
     goes z = go (stepped_at shop sheet n x b) f.comes_to
@@ -96,17 +102,17 @@ module _ (shop sheet trace : List ℕ) (before : ℕ) where
         go (Run.refused q) k = absurd (k.1 (sym (ap (λ (q : Questions.Failure). q.refusal.number) k.0) ∙ z))
         go (Run.taken deed P) k = ap {B = List ℕ} (λ (Q : Run.Problem). turn_text n x (Run.taken deed P) ++ turns_text (rules_of shop) (suc n) Q rest) (sym k.1)
 
-    pub turning_ends : {more : ℕ} → more ≡ bytes + length text → shown.failure.refusal.number ≢ 0 → more ≡ before + length (steps_text shop sheet trace)
+    pub turning_ends : {more : ℕ} → more ≡ bytes + length text → (told_of shown.answer).refusal.number ≢ 0 → more ≡ before + length (steps_text shop sheet trace)
     turning_ends e z = omega (arith, t.whole, ap length here, ap length (ends z), length-append text [], e)
 
-    pub turning_more : {more : ℕ} → more ≡ bytes + length text → length text ≤ turn_bytes → shown.failure.refusal.number ≡ 0
+    pub turning_more : {more : ℕ} → more ≡ bytes + length text → length text ≤ turn_bytes → (told_of shown.answer).refusal.number ≡ 0
         → Turning shop sheet trace before (n + 1) more shown.problem
     turning_more {more} e few z =
         let later : turns_text (rules_of shop) (n + 1) (problem_in shop sheet shown.problem) (drop (n + 1) (steps_of trace))
         ≡ turns_text (rules_of shop) (suc n) (problem_in shop sheet shown.problem) rest =
         ap {B = List ℕ} (λ (j : ℕ). turns_text (rules_of shop) j (problem_in shop sheet shown.problem) (drop j (steps_of trace))) (add-one n) in
         record {
-          going = going_next {k = n} (display_goes_on.goes_on _ _ _ _ _ (record { answer = shown.failure; after = shown.problem; forward = f }) t.going) z refl;
+          going = going_next {k = n} (display_goes_on.goes_on _ _ _ _ _ (record { answer = shown.answer; after = shown.problem; forward = f }) t.going) z refl;
           few = omega (arith, t.few, e, few);
           whole = omega (
             arith,
@@ -120,45 +126,42 @@ module _ (shop sheet trace : List ℕ) (before : ℕ) where
         }
 
 -- All of a text was written, and its bytes were counted.
-pub counted : (r : Shown) (before : ℕ) {n : ℕ} (piece : List ℕ) {text : List ℕ} → Writes before piece r → r ≡ Bytes n → piece ≡ text → n ≡ before + length text
-counted r before piece w e p = subst (Writes before piece) e w ∙ ap {B = ℕ} (λ l. before + length l) p
+pub counted : (before : ℕ) (piece : List ℕ) {n : ℕ} {text : List ℕ} → n ≡ before + length piece → piece ≡ text → n ≡ before + length text
+counted before piece w p = w ∙ ap {B = ℕ} (λ l. before + length l) p
 
 -- The first moment, counted.
-pub first_written : (b : Problem) (r : Shown) (end : ℕ) (room : List ℕ) {text : List ℕ} → text ≡ take end room → end ≤ moment_bytes → Writes 0 text r
+pub first_written : (b : Problem) (r : Option ℕ) (end : ℕ) (room : List ℕ) {text : List ℕ} → text ≡ take end room → end ≤ moment_bytes → Writes 0 text r
     → MomentPut 0 b [] (take end room) → FewBytes r × FirstWritten b r
-first_written b (Bytes n) end room {text} e few w put = (
+first_written b (Some n) end room {text} e few w put = (
   omega (arith, w, ap length e, length-take end room, few),
   λ shop sheet valid. omega (arith, w, ap length e, ap length (put shop sheet valid)),
 )
-first_written b Unwritten end room e few w put = (tt, λ shop sheet valid. tt)
-
-pub first_few : {r : Shown} {n : ℕ} → FewBytes r → r ≡ Bytes n → n ≤ moment_bytes
-first_few few e = subst FewBytes e few
+first_written b None end room e few w put = (tt, λ shop sheet valid. tt)
 
 -- The front of a room has no more bytes than were counted.
 pub few_front : (end : ℕ) (room : List ℕ) {most : ℕ} {piece : List ℕ} → piece ≡ take end room → end ≤ most → length piece ≤ most
 few_front end room e few = omega (arith, ap length e, length-take end room, few)
 
 -- What the code's record gives first is the moment of the order's problem.
-pub first_is : (shop sheet : List ℕ) {table : List ℕ} (b : Problem) (r : Shown) {n : ℕ} → Prepared shop sheet table b → FirstWritten b r → r ≡ Bytes n
+pub first_is : (shop sheet : List ℕ) {table : List ℕ} (b : Problem) {n : ℕ} → Prepared shop sheet table b → FirstWritten b (Some n)
     → n ≡ length (moment_text 0 (problem_of (order sheet)))
-first_is shop sheet {table} b r {n} p w e =
+first_is shop sheet {table} b {n} p w =
     subst (λ (Q : Run.Problem). n ≡ length (moment_text 0 Q)) (display_goes_on.begins shop sheet table b p).0
-    (omega (arith, subst (Writes 0 (moment_text 0 (problem_in shop sheet b))) e (w shop sheet p.goals.valid)))
+    (omega (arith, w shop sheet p.goals.valid))
 
 module _ (shop sheet trace : List ℕ) where
-  -- A check whose answer is no 0 has not passed.
-  module _ (q : Refusal) (z : q.number ≢ 0) where
+  -- A check that refuses has not passed.
+  module _ (q : Refusal) where
     unpassed : (v : Verdict) (l : List ℕ) → refusal_of q ≡ answered v → if_passed v l ≡ []
     unfolding if_passed
-    unpassed passed l e = absurd (z (ap (λ (a : Questions.Refusal). a.number) e))
+    unpassed passed l e = absurd (numbered q.question (ap (λ (a : Questions.Refusal). a.number) e))
     unpassed (Questions.refused f) l e = refl
 
     shown_nothing : refusal_of q ≡ answered (check_order shop sheet) → shown_text shop sheet trace ≡ []
     unfolding shown_text
     shown_nothing e = unpassed (check_order shop sheet) _ e
 
-    pub writes_nothing : refusal_of q ≡ answered (check_order shop sheet) → Writes 0 (shown_text shop sheet trace) (Bytes 0)
+    pub writes_nothing : refusal_of q ≡ answered (check_order shop sheet) → Writes 0 (shown_text shop sheet trace) (Some 0)
     writes_nothing e = omega (arith, ap length (shown_nothing e))
 
     shown_first : check_order shop sheet ≡ passed → refusal_of q ≡ answered (check_trace shop sheet trace)
@@ -170,7 +173,7 @@ module _ (shop sheet trace : List ℕ) where
         ∙ append-nil (moment_text 0 (problem_of (order sheet)))
 
     pub writes_first : {n : ℕ} → check_order shop sheet ≡ passed → refusal_of q ≡ answered (check_trace shop sheet trace)
-        → n ≡ length (moment_text 0 (problem_of (order sheet))) → Writes 0 (shown_text shop sheet trace) (Bytes n)
+        → n ≡ length (moment_text 0 (problem_of (order sheet))) → Writes 0 (shown_text shop sheet trace) (Some n)
     writes_first o e h = omega (arith, h, ap length (shown_first o e))
 
   shown_all : check_order shop sheet ≡ passed → check_trace shop sheet trace ≡ passed
@@ -181,13 +184,13 @@ module _ (shop sheet trace : List ℕ) where
       ∙ ap {B = List ℕ} (λ v. moment_text 0 (problem_of (order sheet)) ++ if_passed v (steps_text shop sheet trace)) e
 
   -- The first moment, and behind it the steps.
-  pub writes_all : (r : Shown) {n : ℕ} → check_order shop sheet ≡ passed → check_trace shop sheet trace ≡ passed → n ≡ length (moment_text 0 (problem_of (order sheet)))
+  pub writes_all : (r : Option ℕ) {n : ℕ} → check_order shop sheet ≡ passed → check_trace shop sheet trace ≡ passed → n ≡ length (moment_text 0 (problem_of (order sheet)))
       → Writes n (steps_text shop sheet trace) r → Writes 0 (shown_text shop sheet trace) r
-  writes_all (Bytes m) o e h w =
+  writes_all (Some m) o e h w =
       omega (arith, w, h, ap length (shown_all o e), length-append (moment_text 0 (problem_of (order sheet))) (steps_text shop sheet trace))
-  writes_all Unwritten o e h w = tt
+  writes_all None o e h w = tt
 
 -- The text depends on the words of the sheets alone, so equal words may be put for each other.
-pub writes_of : {shop shop' sheet sheet' trace trace' : List ℕ} (r : Shown) → shop ≡ shop' → sheet ≡ sheet' → trace ≡ trace' → Writes 0 (shown_text shop sheet trace) r
+pub writes_of : {shop shop' sheet sheet' trace trace' : List ℕ} (r : Option ℕ) → shop ≡ shop' → sheet ≡ sheet' → trace ≡ trace' → Writes 0 (shown_text shop sheet trace) r
     → Writes 0 (shown_text shop' sheet' trace') r
 writes_of r a b c w = rw (← a, ← b, ← c) w

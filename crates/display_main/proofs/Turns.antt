@@ -8,6 +8,7 @@ use Rattle.hgn.specs.Questions as Questions
 use Rattle.hgn.specs.Run as Run
 use Rattle.network.specs.Goals.{count_in}
 use Rattle.network.proofs.WaitingGoals.{list_length}
+use Rattle.step.specs.Failures.{told_of}
 use Rattle.step.specs.Steps.{problem_in}
 use Rattle.step.specs.declared.problem.Problem.{Problem}
 use Rattle.step.specs.declared.problem.Stepped as Code
@@ -27,8 +28,8 @@ moment_is number count waits b front n w first second third shop order valid =
     ∙ simp append_assoc
 
 -- The text of a step that is taken: the code's answer is 0, so the definition's step was taken too.
-pub turn_taken : (n : ℕ) (x : Run.Step) (shown : Code.Stepped) (line : List ℕ) {text : List ℕ} → shown.failure.refusal.number ≡ 0
-    → line ≡ step_text x shown.failure.refusal.number shown.failure.atom → MomentPut (n + 1) shown.problem line text → TurnPut n x shown text
+pub turn_taken : (n : ℕ) (x : Run.Step) (shown : Code.Stepped) (line : List ℕ) {text : List ℕ} → (told_of shown.answer).refusal.number ≡ 0
+    → line ≡ step_text x (told_of shown.answer).refusal.number (told_of shown.answer).atom → MomentPut (n + 1) shown.problem line text → TurnPut n x shown text
 unfolding turn_text
 turn_taken n x shown line z e put shop order (Run.refused f) comes valid =
     absurd (comes.1 (sym (ap (λ (q : Questions.Failure). q.refusal.number) comes.0) ∙ z))
@@ -38,8 +39,8 @@ turn_taken n x shown line z e put shop order (Run.taken deed P) comes valid =
     (e ∙ ap {B = List ℕ} (λ (q : Questions.Failure). step_text x q.refusal.number q.atom) comes.0) comes.1
 
 -- The text of a step that is refused is its line.
-pub turn_refused : (n : ℕ) (x : Run.Step) (shown : Code.Stepped) {text : List ℕ} → shown.failure.refusal.number ≢ 0
-    → text ≡ step_text x shown.failure.refusal.number shown.failure.atom → TurnPut n x shown text
+pub turn_refused : (n : ℕ) (x : Run.Step) (shown : Code.Stepped) {text : List ℕ} → (told_of shown.answer).refusal.number ≢ 0
+    → text ≡ step_text x (told_of shown.answer).refusal.number (told_of shown.answer).atom → TurnPut n x shown text
 unfolding turn_text
 turn_refused n x shown z e shop order (Run.refused f) comes valid =
     e ∙ ap {B = List ℕ} (λ (q : Questions.Failure). step_text x q.refusal.number q.atom) comes.0

@@ -6,12 +6,18 @@ use Rattle.hgn.specs.Network.{Waiting, most_waiting, step_number, method_number,
 use Rattle.hgn.specs.Run.{Step, Problem, Stepped, refused, taken}
 use Rattle.sheet_files.specs.Texts.{ended, blank, newline, number_bytes}
 
--- A line of three numbers, one blank apart, and one of four.
-unfoldable pub three_text : ℕ → ℕ → ℕ → List ℕ
-three_text first second third = ended blank first ++ ended blank second ++ ended newline third
+-- A line of numbers, one blank apart.
+unfoldable pub numbers_text : List ℕ → List ℕ
+numbers_text [] = []
+numbers_text (n ∷ []) = ended newline n
+numbers_text (n ∷ m ∷ ns) = ended blank n ++ numbers_text (m ∷ ns)
 
-unfoldable pub four_text : ℕ → ℕ → ℕ → ℕ → List ℕ
-four_text first second third fourth = ended blank first ++ ended blank second ++ ended blank third ++ ended newline fourth
+-- A line of three numbers, and one of four.
+abbrev pub three_text : ℕ → ℕ → ℕ → List ℕ
+three_text first second third = numbers_text (first ∷ second ∷ third ∷ [])
+
+abbrev pub four_text : ℕ → ℕ → ℕ → ℕ → List ℕ
+four_text first second third fourth = numbers_text (first ∷ second ∷ third ∷ fourth ∷ [])
 
 -- The atoms that are true, by rising numbers, in a state whose first atom has number `i`.
 unfoldable pub true_from : ℕ → State → List ℕ

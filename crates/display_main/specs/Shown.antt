@@ -1,5 +1,5 @@
 -- The whole text that the display program prints, and how many bytes of it went out. Document 01, "How a derivation runs" and "Questions" 21 to 32.
-use Rattle.std.specs.Prelude.{ℕ, suc, ◌+◌, ◌≤◌, ◌≡◌, List, [], ◌∷◌, ◌++◌, length}
+use Rattle.std.specs.Prelude.{ℕ, suc, ◌+◌, ◌≤◌, ◌≡◌, List, [], ◌∷◌, ◌++◌, length, Option, None, Some}
 use Rattle.hgn.specs.Questions as Questions
 use Rattle.hgn.specs.Questions.{Verdict, passed}
 use Rattle.hgn.specs.Run.{Rules, Step, Problem, problem_of, refused, taken, stepped}
@@ -10,8 +10,6 @@ use Rattle.step.specs.Steps.{problem_in}
 use Rattle.step.specs.Taking.{ValidGoals}
 use Rattle.step.specs.declared.problem.Problem as Code
 use Rattle.display_main.specs.Moments.{moment_text, turn_text, moment_bytes}
-use Rattle.display_main.specs.declared.answer.Shown.{Shown}
-use Rattle.display_main.specs.declared.answer.Shown.TheVariants.{Bytes, Unwritten}
 
 -- The text of the steps from step number `n` on, up to the last or to the first that is refused.
 unfoldable pub turns_text : Rules → ℕ → Problem → List Step → List ℕ
@@ -37,15 +35,15 @@ shown_text shop sheet trace =
 
 -- All of a text went out behind so many bytes, and its bytes were counted: which bytes a call of the operating system writes no contract can say,
 -- so the count ties what was handed to it to the text. Where not all went out, how much did is left free.
-abbrev pub Writes : ℕ → List ℕ → Shown → Type 0
-Writes before text (Bytes n) = n ≡ before + length text
-Writes before text Unwritten = Unit {0}
+abbrev pub Writes : ℕ → List ℕ → Option ℕ → Type 0
+Writes before text (Some n) = n ≡ before + length text
+Writes before text None = Unit {0}
 
 -- No more bytes than a moment has.
-abbrev pub FewBytes : Shown → Type 0
-FewBytes (Bytes n) = n ≤ moment_bytes
-FewBytes Unwritten = Unit {0}
+abbrev pub FewBytes : Option ℕ → Type 0
+FewBytes (Some n) = n ≤ moment_bytes
+FewBytes None = Unit {0}
 
 -- The first moment of a record went out, whatever sheets the rows of its goals stand in.
-abbrev pub FirstWritten : Code.Problem → Shown → Type 0
+abbrev pub FirstWritten : Code.Problem → Option ℕ → Type 0
 FirstWritten b r = (shop sheet : List ℕ) → ValidGoals shop sheet b.waiting → Writes 0 (moment_text 0 (problem_in shop sheet b)) r

@@ -1,6 +1,7 @@
-// Lines of three and of four numbers, of which the text of a moment is made. Document 01, "How a derivation runs".
-ghost use Rattle.std.specs.Prelude.{◌≡◌, ◌++◌, ◌+◌, ◌≤◌, length, take};
-ghost use Rattle.display_main.specs.Moments.{three_text, four_text, three_bytes, four_bytes};
+// Lines of numbers, of which the text of a moment is made. Document 01, "How a derivation runs".
+ghost use Rattle.std.specs.Prelude.{◌≡◌, ◌++◌, ◌+◌, ◌*◌, ◌≤◌, length, take};
+ghost use Rattle.sheet_files.specs.Texts.{number_bytes};
+ghost use Rattle.display_main.specs.Moments.{numbers_text};
 
 use sheet_files::text;
 use sheet_files::text::Text;
@@ -10,32 +11,18 @@ pub const THREE_BYTES: usize = 3 * Text::NUMBER_BYTES;
 
 pub const FOUR_BYTES: usize = 4 * Text::NUMBER_BYTES;
 
-// A line of three numbers goes behind the first bytes of the text. Answers how many bytes there are now.
-pub fn put_three(text: &mut [u8], at: usize, first: u16, second: u16, third: u16) -> usize
-    requires { at + three_bytes ≤ length text.old }
-    ensures few { result ≤ at + three_bytes }
-    ensures text { take result text.new ≡ take at text.old ++ three_text first second third }
+// A line of numbers, one blank apart, goes behind the first bytes of the text. Answers how many bytes there are now.
+pub fn put_numbers(text: &mut [u8], at: usize, numbers: &[u16]) -> usize
+    requires { at + number_bytes * length numbers.now ≤ length text.old }
+    ensures few { result ≤ at + number_bytes * length numbers.now }
+    ensures text { take result text.new ≡ take at text.old ++ numbers_text numbers.now }
 {
-    let one = text::put(text, at, first as u64, b' ');
-    let two = text::put(text, one, second as u64, b' ');
-    text::put(text, two, third as u64, b'\n')
-}
-
-// A line of four numbers goes behind the first bytes of the text.
-pub fn put_four(
-    text: &mut [u8],
-    at: usize,
-    first: u16,
-    second: u16,
-    third: u16,
-    fourth: u16,
-) -> usize
-    requires { at + four_bytes ≤ length text.old }
-    ensures few { result ≤ at + four_bytes }
-    ensures text { take result text.new ≡ take at text.old ++ four_text first second third fourth }
-{
-    let one = text::put(text, at, first as u64, b' ');
-    let two = text::put(text, one, second as u64, b' ');
-    let three = text::put(text, two, third as u64, b' ');
-    text::put(text, three, fourth as u64, b'\n')
+    let Some((last, others)) = numbers.split_last() else {
+        return at;
+    };
+    let mut end = at;
+    for number in others {
+        end = text::put(text, end, u64::from(*number), b' ');
+    }
+    text::put(text, end, u64::from(*last), b'\n')
 }

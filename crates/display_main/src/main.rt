@@ -8,27 +8,20 @@ mod moment;
 mod turn;
 
 use sheet_files::file;
-use sheet_files::file::Reading;
-use sheet_files::words::front;
 
 // A file that can't be read ends the program with nothing on standard output: its line on standard error is the answer.
 fn main(rt: HostRuntime) {
     let mut shop = [0u8; file::SHOP_BYTES];
     let mut order = [0u8; file::ORDER_BYTES];
     let mut trace = [0u8; file::TRACE_BYTES];
-    let Reading::Bytes(shop_length) = file::read(&rt, b"display", b"shop", &mut shop) else {
+    let Some(shop) = file::read(&rt, b"display", b"shop", &mut shop) else {
         return;
     };
-    let Reading::Bytes(order_length) = file::read(&rt, b"display", b"order", &mut order) else {
+    let Some(order) = file::read(&rt, b"display", b"order", &mut order) else {
         return;
     };
-    let Reading::Bytes(trace_length) = file::read(&rt, b"display", b"trace", &mut trace) else {
+    let Some(trace) = file::read(&rt, b"display", b"trace", &mut trace) else {
         return;
     };
-    answer::display(
-        &rt,
-        front(&shop, shop_length),
-        front(&order, order_length),
-        front(&trace, trace_length),
-    );
+    answer::display(&rt, shop, order, trace);
 }

@@ -1,3 +1,2 @@
 -- Laws of the definitions in the shape that the code asks for.
-pub mod Comparing
 pub mod Answering

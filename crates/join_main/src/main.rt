@@ -5,10 +5,8 @@
 mod answer;
 mod same;
 
-use answer::Answer;
-use sheet_files::file::Reading;
+use answer::{FILE_BYTES, write_answer};
 use sheet_files::text::Text;
-use sheet_files::words::front;
 use sheet_files::{file, written};
 use std::rt::Files;
 
@@ -22,21 +20,17 @@ fn answer_to(
     second: &[u8],
 ) {
     let mut line = [0u8; Text::HEADING_BYTES];
-    let mut order = [0u8; answer::FILE_BYTES];
-    let answer = answer::write_answer(shop, other, first, second, &mut line, &mut order);
-    match answer {
-        Answer::OtherShop => {
-            let _ = rt.eprintln("join: the two folders have different shop sheets");
-        }
-        Answer::Refused(end) => {
-            written::print_line(rt, b"join", front(&line, end));
-        }
-        Answer::Joined(end, size) => {
-            if written::write_new(rt, b"join", b"order", front(&order, size)) {
-                written::print_line(rt, b"join", front(&line, end));
-            }
-        }
+    let mut order = [0u8; FILE_BYTES];
+    let Some(answer) = write_answer(shop, other, first, second, &mut line, &mut order) else {
+        let _ = rt.eprintln("join: the two folders have different shop sheets");
+        return;
+    };
+    if let Some(order) = answer.file
+        && !written::write_new(rt, b"join", b"order", order)
+    {
+        return;
     }
+    written::print_line(rt, b"join", answer.line);
 }
 
 // A file that can't be read ends the program with nothing on standard output: its line on standard error is the answer.
@@ -45,23 +39,17 @@ fn main(rt: HostRuntime) {
     let mut other = [0u8; file::SHOP_BYTES];
     let mut first = [0u8; file::ORDER_BYTES];
     let mut second = [0u8; file::ORDER_BYTES];
-    let Reading::Bytes(shop_length) = file::read(&rt, b"join", b"shop", &mut shop) else {
+    let Some(shop) = file::read(&rt, b"join", b"shop", &mut shop) else {
         return;
     };
-    let Reading::Bytes(other_length) = file::read(&rt, b"join", b"other-shop", &mut other) else {
+    let Some(other) = file::read(&rt, b"join", b"other-shop", &mut other) else {
         return;
     };
-    let Reading::Bytes(first_length) = file::read(&rt, b"join", b"first", &mut first) else {
+    let Some(first) = file::read(&rt, b"join", b"first", &mut first) else {
         return;
     };
-    let Reading::Bytes(second_length) = file::read(&rt, b"join", b"second", &mut second) else {
+    let Some(second) = file::read(&rt, b"join", b"second", &mut second) else {
         return;
     };
-    answer_to(
-        &rt,
-        front(&shop, shop_length),
-        front(&other, other_length),
-        front(&first, first_length),
-        front(&second, second_length),
-    );
+    answer_to(&rt, shop, other, first, second);
 }

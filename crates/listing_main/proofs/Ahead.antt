@@ -1,5 +1,6 @@
 -- The steps of an accepted trace, one by one: what each gives to the text, and what is left of it. Assumes nothing.
 use Prim.Native.Nat.{ℕ, suc, ◌+◌, ◌<◌}
+use Rattle.std.specs.Prelude.{Option}
 use native.Mathlib.Omega.{arith}
 use native.Mathlib.Numerals.{add-one}
 use mathlib.Core.Path.{◌≡◌, sym, ap, subst, ◌∙◌}
@@ -18,10 +19,11 @@ use Rattle.step.specs.declared.problem.Problem.{Problem}
 use Rattle.trace_reader.specs.TraceRows.{row_at}
 use Rattle.trace_reader.proofs.RowLaws.{row_first, row_none}
 use Rattle.listing.specs.Lines.{lines_told, Narrow, Follows, StepTold}
-use Rattle.listing.specs.declared.lines.Told.{Told}
+use Rattle.listing.specs.declared.line.Line.{Line}
 use Rattle.listing_main.specs.Listed.{lines_text}
 use Rattle.listing_main.specs.Pieces.{piece_text, text_from, text_ahead, Ahead}
 use Rattle.listing_main.proofs.Pieces.{piece_is, lines_append}
+use Rattle.network.specs.declared.goals.Goals.{Goals}
 
 module _ (shop sheet trace : List ℕ) where
   -- Past the last step nothing is left of the text.
@@ -47,7 +49,7 @@ module _ (shop sheet trace : List ℕ) where
         resumes (stepped (rules_of shop)) k (problem_in shop sheet b) x (drop (suc k) (steps_of trace)) a.deeds a.last
         (subst (λ (xs : List Step). run (rules_of shop) k (problem_in shop sheet b) xs ≡ accepted a.deeds a.last) rest_is a.accepts)
 
-    module _ (told : Told) (s' : State) (ws' : List ℕ) (t : StepTold shop sheet k x b.atoms b.waiting told s' ws') where
+    module _ (told : Option Line) (s' : State) (ws' : Goals) (t : StepTold shop sheet k x b.atoms b.waiting told s' ws') where
       abbrev b' : Problem
       b' = record { atoms = s'; waiting = ws' }
 

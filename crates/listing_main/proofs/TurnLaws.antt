@@ -3,30 +3,28 @@ use Prim.Native.Nat.{ℕ, ◌+◌, ◌≤◌}
 use native.Mathlib.Omega.{arith}
 use mathlib.Core.Path.{◌≡◌, refl, sym, ap, ◌∙◌}
 use mathlib.Core.Logic.{◌⊎◌, inl, inr}
-use mathlib.Core.Bool.{Bool, true, false}
 use mathlib.Core.List.{List, [], ◌++◌, append_assoc, append-nil}
-use mathlib.Core.Option.{none, some}
+use mathlib.Core.Option.{some}
 use lib.ListN.{length, take}
+use Rattle.std.specs.Prelude.{Option}
 use Rattle.hgn.specs.State.{State}
 use Rattle.hgn.specs.Run.{Step}
 use Rattle.step.specs.declared.problem.Problem.{Problem}
 use Rattle.trace_reader.specs.TraceRows.{row_at}
 use Rattle.listing.specs.Lines.{StepTold}
-use Rattle.listing.specs.declared.lines.Told.{Told}
+use Rattle.listing.specs.declared.line.Line.{Line}
 use Rattle.listing_main.specs.Pieces.{piece_text, piece_bytes, text_ahead, Ahead}
 use Rattle.listing_main.specs.Turns.{TurnOf, Turns, last_turn, next_turn, TurnsAreWhole}
 use Rattle.listing_main.proofs.Ahead.{ahead_on, text_on, nothing_ahead}
 use Rattle.listing_main.proofs.FirstAhead.{ahead_first, text_first}
-
-pub true≢false : {P : Type 0} → true ≡ false → P
-true≢false e = let y : ◌≡◌ {A = ℕ} 0 1 = cc in absurd (omega arith)
+use Rattle.network.specs.declared.goals.Goals.{Goals}
 
 module _ (shop sheet trace : List ℕ) {k : ℕ} {b : Problem} (end : ℕ) (room : List ℕ) where
   -- A step was taken, and its piece was put.
-  pub turn_step : Ahead shop sheet trace k b → (x : Step) → row_at trace k ≡ some x → (told : Told) (s : State) (ws : List ℕ)
+  pub turn_step : Ahead shop sheet trace k b → (x : Step) → row_at trace k ≡ some x → (told : Option Line) (s : State) (ws : Goals)
       → StepTold shop sheet k x b.atoms b.waiting told s ws → (at : ℕ) → at + piece_bytes ≤ length room → (at ≡ end) ⊎ (at ≡ 0)
       → (room' : List ℕ) (new : ℕ) → length room' ≡ length room → new ≤ at + piece_bytes → take new room' ≡ take at room ++ piece_text told
-      → TurnOf shop sheet trace k b (record { atoms = s; waiting = ws }) end room room' (record { end = new; more = true; written = true })
+      → TurnOf shop sheet trace k b (record { atoms = s; waiting = ws }) end room new room'
   turn_step a x found told s ws t at space where' room' new same put text = go where'
     where
       ahead' : List ℕ
@@ -38,54 +36,27 @@ module _ (shop sheet trace : List ℕ) {k : ℕ} {b : Problem} (end : ℕ) (room
           ∙ append_assoc (take at room) (piece_text told) ahead'
           ∙ ap {B = List ℕ} (λ l. take at room ++ l) (sym (text_on shop sheet trace a x found told s ws t))
 
-      go : (at ≡ end) ⊎ (at ≡ 0)
-          → TurnOf shop sheet trace k b (record { atoms = s; waiting = ws }) end room room' (record { end = new; more = true; written = true })
+      go : (at ≡ end) ⊎ (at ≡ 0) → TurnOf shop sheet trace k b (record { atoms = s; waiting = ws }) end room new room'
       go (inl e) = record {
         fits = omega (arith, space, put, same);
         out = [];
         all_or_none = inl refl;
-        ahead = λ _. ahead_on shop sheet trace a x found told s ws t;
-        text = λ _. next ∙ ap {B = List ℕ} (λ (j : ℕ). take j room ++ text_ahead shop sheet trace k b) e;
-        over = λ less. true≢false less;
+        ahead = ahead_on shop sheet trace a x found told s ws t;
+        text = next ∙ ap {B = List ℕ} (λ (j : ℕ). take j room ++ text_ahead shop sheet trace k b) e;
       }
       go (inr e) = record {
         fits = omega (arith, space, put, same);
         out = take end room;
         all_or_none = inr refl;
-        ahead = λ _. ahead_on shop sheet trace a x found told s ws t;
-        text = λ _. ap {B = List ℕ} (λ l. take end room ++ l) (next ∙ ap {B = List ℕ} (λ (j : ℕ). take j room ++ text_ahead shop sheet trace k b) e);
-        over = λ less. true≢false less;
+        ahead = ahead_on shop sheet trace a x found told s ws t;
+        text = ap {B = List ℕ} (λ l. take end room ++ l) (next ∙ ap {B = List ℕ} (λ (j : ℕ). take j room ++ text_ahead shop sheet trace k b) e);
       }
-
-  -- What the room held could not be written out.
-  pub turn_unwritten : (b' : Problem) → end ≤ length room → TurnOf shop sheet trace k b b' end room room (record { end = end; more = false; written = false })
-  turn_unwritten b' fits = record {
-    fits = fits;
-    out = [];
-    all_or_none = inl refl;
-    ahead = λ more. true≢false (sym more);
-    text = λ more. true≢false (sym more);
-    over = λ less written. true≢false (sym written);
-  }
-
-  -- The trace is over.
-  pub turn_end : (b' : Problem) → end ≤ length room → row_at trace k ≡ none → (written : Bool)
-      → TurnOf shop sheet trace k b b' end room room (record { end = end; more = false; written = written })
-  turn_end b' fits past written = record {
-    fits = fits;
-    out = take end room;
-    all_or_none = inr refl;
-    ahead = λ more. true≢false (sym more);
-    text = λ more. true≢false (sym more);
-    over = λ less w. (past, refl);
-  }
 
 module _ (shop sheet trace : List ℕ) where
   turns_write : {k : ℕ} {b : Problem} {held text : List ℕ} → Turns shop sheet trace k b held text → Ahead shop sheet trace k b
       → text ≡ held ++ text_ahead shop sheet trace k b
-  turns_write (last_turn {k} {end} {b} {b'} {room} r t less written) a =
-      (t.over less written).1 ∙ sym (append-nil (take end room)) ∙ ap {B = List ℕ} (λ l. take end room ++ l) (sym (nothing_ahead shop sheet trace a (t.over less written).0))
-  turns_write (next_turn r t more rest) a = ap {B = List ℕ} (λ l. t.out ++ l) (turns_write rest (t.ahead more)) ∙ t.text more
+  turns_write (last_turn {held = held} past) a = sym (append-nil held) ∙ ap {B = List ℕ} (λ l. held ++ l) (sym (nothing_ahead shop sheet trace a past))
+  turns_write (next_turn t rest) a = ap {B = List ℕ} (λ l. t.out ++ l) (turns_write rest t.ahead) ∙ t.text
 
 pub turns_are_whole : TurnsAreWhole
 turns_are_whole shop sheet trace table b accepts first text turns =

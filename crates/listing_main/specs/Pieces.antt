@@ -1,5 +1,5 @@
 -- The pieces in which the listing program makes the text of an accepted trace, one for each step, and what is ahead of a step. Document 02, Req 03.
-use Rattle.std.specs.Prelude.{ℕ, ◌≤◌, ◌≡◌, List, [], ◌∷◌, ◌++◌, length, drop}
+use Rattle.std.specs.Prelude.{ℕ, ◌≤◌, ◌≡◌, List, [], ◌∷◌, ◌++◌, length, drop, Option}
 use Rattle.hgn.specs.State.{State}
 use Rattle.hgn.specs.Run.{Deed, Outcome, stopped, accepted, run}
 use Rattle.hgn.specs.Trace.{most_steps, steps_of}
@@ -10,7 +10,6 @@ use Rattle.step.specs.Taking.{Going}
 use Rattle.step.specs.declared.problem.Problem.{Problem}
 use Rattle.listing.specs.Lines.{lines_told}
 use Rattle.listing.specs.declared.line.Line.{Line}
-use Rattle.listing.specs.declared.lines.Told.{Told}
 use Rattle.listing_main.specs.Listed.{line_text, lines_text, line_bytes}
 
 -- The text of lines as the code has them.
@@ -19,7 +18,7 @@ numbers_text [] = []
 numbers_text (l ∷ ls) = line_text l.above l.released l.brought l.method ++ numbers_text ls
 
 -- The piece of a step: the text of the lines that it told.
-abbrev pub piece_text : Told → List ℕ
+abbrev pub piece_text : Option Line → List ℕ
 piece_text told = numbers_text (lines_told told)
 
 -- The most bytes of a piece: a step tells one line at most.

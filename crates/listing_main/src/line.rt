@@ -3,6 +3,7 @@ ghost use Rattle.std.specs.Prelude.{◌≡◌, ◌++◌, ◌+◌, ◌≤◌, len
 ghost use Rattle.sheet_files.specs.Texts.{blank};
 ghost use Rattle.listing_main.specs.Listed.{line_text, most_above, line_bytes};
 
+use listing::line::Line;
 use network::goals::Goals;
 use sheet_files::text;
 use sheet_files::text::Text;
@@ -16,30 +17,19 @@ fn put_blanks(text: &mut [u8], at: usize, count: usize) -> usize
     ensures few { result ≡ at + count }
     ensures text { take result text.new ≡ take at text.old ++ replicate count blank }
 {
-    let mut i = 0;
-    while i < count {
-        text[at + i] = b' ';
-        i += 1;
-    }
+    text[at..at + count].fill(b' ');
     at + count
 }
 
 // A line goes behind the first bytes of the text. Answers how many bytes there are now.
-pub fn put_line(
-    text: &mut [u8],
-    at: usize,
-    above: u16,
-    released: u16,
-    brought: u16,
-    method: u16,
-) -> usize
+pub fn put_line(text: &mut [u8], at: usize, line: Line) -> usize
     requires line_bytes_in_bounds { at + line_bytes ≤ length text.old }
-    requires above_le_most_above { above ≤ most_above }
+    requires above_le_most_above { line.above ≤ most_above }
     ensures few { result ≤ at + line_bytes }
-    ensures text { take result text.new ≡ take at text.old ++ line_text above released brought method }
+    ensures text { take result text.new ≡ take at text.old ++ line_text line.above line.released line.brought line.method }
 {
-    let indented = put_blanks(text, at, 2 * (above as usize));
-    let first = text::put(text, indented, released as u64, b' ');
-    let second = text::put(text, first, brought as u64, b' ');
-    text::put(text, second, method as u64, b'\n')
+    let indented = put_blanks(text, at, 2 * usize::from(line.above));
+    let first = text::put(text, indented, u64::from(line.released), b' ');
+    let second = text::put(text, first, u64::from(line.brought), b' ');
+    text::put(text, second, u64::from(line.method), b'\n')
 }

@@ -4,8 +4,6 @@
 
 mod answer;
 
-use sheet_files::file::Reading;
-use sheet_files::words::front;
 use sheet_files::{file, written};
 
 // A file that can't be read ends the program with nothing on standard output: its line on standard error is the answer.
@@ -13,21 +11,16 @@ fn main(rt: HostRuntime) {
     let mut shop = [0u8; file::SHOP_BYTES];
     let mut order = [0u8; file::ORDER_BYTES];
     let mut trace = [0u8; file::TRACE_BYTES];
-    let Reading::Bytes(shop_length) = file::read(&rt, b"replay", b"shop", &mut shop) else {
+    let Some(shop) = file::read(&rt, b"replay", b"shop", &mut shop) else {
         return;
     };
-    let Reading::Bytes(order_length) = file::read(&rt, b"replay", b"order", &mut order) else {
+    let Some(order) = file::read(&rt, b"replay", b"order", &mut order) else {
         return;
     };
-    let Reading::Bytes(trace_length) = file::read(&rt, b"replay", b"trace", &mut trace) else {
+    let Some(trace) = file::read(&rt, b"replay", b"trace", &mut trace) else {
         return;
     };
     let mut text = [0u8; answer::MOST_BYTES];
-    let length = answer::write_answer(
-        front(&shop, shop_length),
-        front(&order, order_length),
-        front(&trace, trace_length),
-        &mut text,
-    );
-    written::print_line(&rt, b"replay", front(&text, length));
+    let text = answer::write_answer(shop, order, trace, &mut text);
+    written::print_line(&rt, b"replay", text);
 }

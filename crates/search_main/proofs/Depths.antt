@@ -9,14 +9,14 @@ use mathlib.Core.Option.{Option, none, some, map}
 use lib.Dec.{leb, ltb}
 use lib.ListN.{length, get_or, drop, drop_of_length-le}
 use lib.Seq.{drop-cons}
-use borrow.Author.Tests.{lt-ltb, le-ltb, ltb-false}
+use borrow.Author.Tests.{ltb-false}
+use Rattle.std.specs.Char.{is_ascii_digit}
+use Rattle.std.proofs.lemmas.Bool.Decides.{nat_tests}
 use Rattle.search_main.specs.Depths.{zero_digit, nine_digit, is_digit, digits_behind, number_of, first_too_deep, capped, depth_of}
 
-pub below_is_none : (b : ℕ) → b < zero_digit → false ≡ is_digit b
-below_is_none b h = sym (ap {B = Bool} (λ (t : Bool). cond t false (leb b nine_digit)) (lt-ltb b zero_digit h))
-
-pub not_below : (b : ℕ) → zero_digit ≤ b → leb b nine_digit ≡ is_digit b
-not_below b h = sym (ap {B = Bool} (λ (t : Bool). cond t false (leb b nine_digit)) (le-ltb b zero_digit h))
+-- The library's test of a digit is the definition's.
+pub digit_is : (b : ℕ) → is_digit b ≡ is_ascii_digit b
+digit_is b = grind (arith, nat_tests)
 
 -- A digit is no lower than that of 0.
 pub digit_above : (b : ℕ) → is_digit b ≡ true → zero_digit ≤ b

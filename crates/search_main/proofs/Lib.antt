@@ -1,4 +1,3 @@
 -- Laws of the definitions in the shape that the code asks for.
 pub mod Depths
 pub mod Capping
-pub mod Answering

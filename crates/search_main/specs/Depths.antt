@@ -1,9 +1,7 @@
 -- The depth that is typed. Document 01, "Questions" 41.
-use Rattle.std.specs.Prelude.{ℕ, suc, ◌+◌, ◌*◌, ◌-◌, min, ◌≡◌, Bool, cond, false, List, [], ◌∷◌, leb, ltb}
+use Rattle.std.specs.Prelude.{Option as Answered, Some, None, ℕ, suc, ◌+◌, ◌*◌, ◌-◌, min, ◌≡◌, Bool, cond, false, List, [], ◌∷◌, leb, ltb}
 use Rattle.std.proofs.Math.Option.{Option, none, some, map}
 use Rattle.hgn.specs.Search.{most_depth, search}
-use Rattle.search_main.specs.declared.depth.Depth.{Depth}
-use Rattle.search_main.specs.declared.depth.Depth.TheVariants.{Is, NoNumber}
 
 -- The ten decimal digits in ASCII.
 abbrev pub zero_digit : ℕ
@@ -40,6 +38,6 @@ abbrev pub CapChangesNothing : Type 0
 CapChangesNothing = (shop sheet : List ℕ) (n : ℕ) (room : List ℕ) → search shop sheet (capped n) room ≡ search shop sheet n room
 
 -- What the code's answer says.
-abbrev pub depth_is : Depth → Option ℕ
-depth_is (Is n) = some n
-depth_is NoNumber = none
+abbrev pub depth_is : Answered ℕ → Option ℕ
+depth_is (Some n) = some n
+depth_is None = none

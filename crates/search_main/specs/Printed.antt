@@ -1,11 +1,10 @@
 -- What the search program prints and writes. Document 01, "Questions", the search, and "One core of sixty centimetres", for the line and the files.
-use Rattle.std.specs.Prelude.{ℕ, ◌+◌, ◌*◌, ◌≡◌, ◌≢◌, List, take, replicate}
+use Rattle.std.specs.Prelude.{ℕ, ◌+◌, ◌*◌, ◌≡◌, ◌≢◌, List, take, replicate, MatchOption}
 use Rattle.hgn.specs.Search.{Searched, search, most_depth}
 use Rattle.hgn.specs.Trace.{size_words}
 use Rattle.sheet_files.specs.Words.{shop_words, order_words, bytes_of}
 use Rattle.sheet_files.specs.Texts.{answer_line}
-use Rattle.search_main.specs.declared.answer.Answer.{Answer}
-use Rattle.search_main.specs.declared.answer.Answer.TheVariants.{Refused, Found}
+use Rattle.sheet_files.specs.declared.written.Answer.{Answer}
 
 -- The words of the longest trace that a search finds.
 abbrev pub room_words : ℕ
@@ -31,10 +30,10 @@ trace_file shop order depth = bytes_of (trace_in (searched shop order depth).ref
 abbrev pub file_bytes : ℕ
 file_bytes = 2 * room_words
 
--- What the code answers for the bytes of two files: how many bytes of the line stand first in a room, and, of a search that found a trace, how many
--- of its file in another. A refused search has no file.
-abbrev pub Answers : List ℕ → List ℕ → ℕ → List ℕ → List ℕ → Answer → Type 0
-Answers shop order depth line file (Refused end) =
-    ((searched shop order depth).refusal.number ≢ 0) × (take end line ≡ printed shop order depth)
-Answers shop order depth line file (Found end size) =
-    ((searched shop order depth).refusal.number ≡ 0) × (take end line ≡ printed shop order depth) × (take size file ≡ trace_file shop order depth)
+-- What the code answers for the bytes of two files: the line and, of a search that found a trace, the bytes of its file. A refused search has no
+-- file.
+abbrev pub Answers : List ℕ → List ℕ → ℕ → Answer → Type 0
+Answers shop order depth a =
+    (a.line.now ≡ printed shop order depth)
+    × MatchOption a.file ((searched shop order depth).refusal.number ≢ 0)
+    (λ file. ((searched shop order depth).refusal.number ≡ 0) × (file.now ≡ trace_file shop order depth))

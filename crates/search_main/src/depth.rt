@@ -2,57 +2,32 @@
 ghost use Rattle.std.specs.Prelude.{◌≡◌, true, ◌+◌, ◌*◌, ◌-◌, ◌≤◌};
 ghost use Rattle.search_main.specs.Depths.{is_digit, zero_digit, capped, first_too_deep, depth_is, depth_of};
 
-use search::found::Found;
+use search::found::Steps;
 
-// What a text says: a depth, at most the first that is too deep; or it is no number.
-#[derive(Clone, Copy)]
-pub enum Depth {
-    Is(u32),
-    NoNumber,
-}
-
-impl Depth {
-    // Every depth from this one on is refused alike, so a longer number is read as this one.
-    const FIRST_TOO_DEEP: u32 = Found::MOST + 1;
-}
-
-fn is_digit(byte: u8) -> bool
-    ensures { result ≡ is_digit byte }
-{
-    if byte < b'0' {
-        return false;
-    }
-    byte <= b'9'
-}
+// Every depth from this one on is refused alike, so a longer number is read as this one.
+const FIRST_TOO_DEEP: u32 = Steps::MOST + 1;
 
 // A digit goes behind those of the depth.
 fn behind(depth: u32, digit: u8) -> u32
     requires { (depth ≤ first_too_deep) × (is_digit digit ≡ true) }
     ensures { result ≡ capped (10 * depth + (digit - zero_digit)) }
 {
-    let longer = 10 * depth + (digit - b'0') as u32;
-    if longer < Depth::FIRST_TOO_DEEP {
-        return longer;
-    }
-    Depth::FIRST_TOO_DEEP
+    FIRST_TOO_DEEP.min(10 * depth + u32::from(digit - b'0'))
 }
 
-// Decimal digits and nothing else, at least one.
-pub fn depth_of(text: &[u8]) -> Depth
+// Decimal digits and nothing else, at least one: a depth, at most the first that is too deep.
+pub fn depth_of(text: &[u8]) -> Option<u32>
     ensures { depth_is result ≡ depth_of text.now }
 {
-    if text.len() == 0 {
-        return Depth::NoNumber;
+    if text.is_empty() {
+        return None;
     }
     let mut depth = 0;
-    let mut i = 0;
-    while i < text.len() {
-        if is_digit(text[i]) {
-            depth = behind(depth, text[i]);
-            i += 1;
-        } else {
-            return Depth::NoNumber;
+    for byte in text {
+        if !byte.is_ascii_digit() {
+            return None;
         }
+        depth = behind(depth, *byte);
     }
-    Depth::Is(depth)
+    Some(depth)
 }

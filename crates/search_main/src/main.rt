@@ -7,11 +7,7 @@ mod answer;
 mod asked;
 mod depth;
 
-use answer::Answer;
-use asked::Asked;
-use sheet_files::file::Reading;
 use sheet_files::text::Text;
-use sheet_files::words::front;
 use sheet_files::{file, written};
 use std::rt::Files;
 
@@ -19,37 +15,27 @@ use std::rt::Files;
 fn run(rt: &(impl Files + Print + Eprint), depth: u32, name: &[u8]) {
     let mut shop = [0u8; file::SHOP_BYTES];
     let mut order = [0u8; file::ORDER_BYTES];
-    let Reading::Bytes(shop_length) = file::read(rt, b"search", b"shop", &mut shop) else {
+    let Some(shop) = file::read(rt, b"search", b"shop", &mut shop) else {
         return;
     };
-    let Reading::Bytes(order_length) = file::read(rt, b"search", b"order", &mut order) else {
+    let Some(order) = file::read(rt, b"search", b"order", &mut order) else {
         return;
     };
     let mut line = [0u8; Text::HEADING_BYTES];
     let mut trace = [0u8; answer::FILE_BYTES];
-    let answer = answer::write_answer(
-        front(&shop, shop_length),
-        front(&order, order_length),
-        depth,
-        &mut line,
-        &mut trace,
-    );
-    match answer {
-        Answer::Refused(end) => {
-            written::print_line(rt, b"search", front(&line, end));
-        }
-        Answer::Found(end, size) => {
-            if written::replace(rt, b"search", b"trace", name, front(&trace, size)) {
-                written::print_line(rt, b"search", front(&line, end));
-            }
-        }
+    let answer = answer::write_answer(shop, order, depth, &mut line, &mut trace);
+    if let Some(trace) = answer.file
+        && !written::replace(rt, b"search", b"trace", name, trace)
+    {
+        return;
     }
+    written::print_line(rt, b"search", answer.line);
 }
 
 fn main(rt: HostRuntime) {
-    let mut name = [0u8; asked::MOST_BYTES];
-    let Asked::For(depth, length) = asked::ask(&rt, &mut name) else {
+    let mut room = [0u8; asked::MOST_BYTES];
+    let Some(asked) = asked::ask(&rt, &mut room) else {
         return;
     };
-    run(&rt, depth, front(&name, length));
+    run(&rt, asked.depth, asked.name);
 }

@@ -1,13 +1,11 @@
 -- The promise of a call that writes words into a lent room, carried into the line of its answer and the bytes of its file. Assumes nothing.
 use Prim.Native.Nat.{ℕ}
-use mathlib.Core.Path.{◌≡◌, refl, sym, ap, ◌∙◌}
+use mathlib.Core.Path.{◌≡◌, sym, ap, ◌∙◌}
 use mathlib.Core.Logic.{◌≢◌}
 use mathlib.Core.List.{List}
-use lib.ListN.{take}
 use Rattle.hgn.specs.Lent.{Lent}
-use Rattle.sheet_files.specs.Words.{bytes_of, Filled}
+use Rattle.sheet_files.specs.Words.{bytes_of}
 use Rattle.sheet_files.specs.Texts.{answer_line}
-use Rattle.sheet_files.proofs.ByIndex.{front_of_filled}
 
 module _ {called answer : Lent (List ℕ)} (is : called ≡ answer) where
   line_is : {text : List ℕ} → text ≡ answer_line called.refusal → text ≡ answer_line answer.refusal
@@ -17,11 +15,11 @@ module _ {called answer : Lent (List ℕ)} (is : called ≡ answer) where
   number_is = ap {B = ℕ} (λ (l : Lent (List ℕ)). l.refusal.number) is
 
   pub answered_refused : {text : List ℕ} → called.refusal.number ≢ 0 → text ≡ answer_line called.refusal
-      → (answer.refusal.number ≢ 0) × (text ≡ answer_line answer.refusal)
-  answered_refused n e = ((λ z. n (number_is ∙ z)), line_is e)
+      → (text ≡ answer_line answer.refusal) × (answer.refusal.number ≢ 0)
+  answered_refused n e = (line_is e, λ z. n (number_is ∙ z))
 
   -- `part` is what of the answer and the room goes into the file.
-  pub answered_written : (part : Lent (List ℕ) → List ℕ) {text file before : List ℕ} {size : ℕ} → called.refusal.number ≡ 0
-      → text ≡ answer_line called.refusal → Filled (bytes_of (part called)) before file size
-      → (answer.refusal.number ≡ 0) × (text ≡ answer_line answer.refusal) × (take size file ≡ bytes_of (part answer))
-  answered_written part n e f = (sym number_is ∙ n, line_is e, front_of_filled f refl ∙ ap {B = List ℕ} (λ l. bytes_of (part l)) is)
+  pub answered_written : (part : Lent (List ℕ) → List ℕ) {text file : List ℕ} → called.refusal.number ≡ 0
+      → text ≡ answer_line called.refusal → file ≡ bytes_of (part called)
+      → (text ≡ answer_line answer.refusal) × ((answer.refusal.number ≡ 0) × (file ≡ bytes_of (part answer)))
+  answered_written part n e f = (line_is e, (sym number_is ∙ n, f ∙ ap {B = List ℕ} (λ l. bytes_of (part l)) is))

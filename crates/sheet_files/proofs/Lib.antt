@@ -1,7 +1,7 @@
 -- Laws of the definitions in the shape that the code asks for.
 pub mod ByIndex
 pub mod ReadBack
-pub mod Files
+pub mod Rooms
 pub mod Decimals
 pub mod Texts
 pub mod Answered

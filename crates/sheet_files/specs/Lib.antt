@@ -1,4 +1,3 @@
 -- What a program makes of its files' bytes, and how it writes numbers.
 pub mod Words
-pub mod Files
 pub mod Texts

@@ -4,6 +4,7 @@ use Rattle.hgn.specs.Rows.{most_rows}
 use Rattle.hgn.specs.Shop as Shop
 use Rattle.hgn.specs.Order as Order
 use Rattle.hgn.specs.Trace as Trace
+use Rattle.sheet_files.specs.declared.file.TheConstants.{SHOP_WORDS, ORDER_WORDS, TRACE_WORDS}
 
 -- A word of two bytes.
 abbrev pub word_of : ℕ → ℕ → ℕ
@@ -41,6 +42,10 @@ order_words = words_read order_bytes
 
 abbrev pub trace_words : List ℕ → List ℕ
 trace_words = words_read trace_bytes
+
+-- The code has room for as many words as are read of a file of each kind.
+abbrev pub RoomsTakeSheets : Type 0
+RoomsTakeSheets = (2 * SHOP_WORDS ≡ shop_bytes) × (2 * ORDER_WORDS ≡ order_bytes) × (2 * TRACE_WORDS ≡ trace_bytes)
 
 -- The bytes of words, low byte first.
 unfoldable pub bytes_of : List ℕ → List ℕ

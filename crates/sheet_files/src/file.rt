@@ -1,6 +1,5 @@
 // The files that a program reads. Document 01, "One core of sixty centimetres" and "The three sheets".
-ghost use Rattle.std.specs.Prelude.{length};
-ghost use Rattle.sheet_files.specs.Files.{Within, PieceWithin};
+ghost use Rattle.std.specs.Prelude.{◌≤◌, length, IfOk, IfSome};
 
 use crate::failure::{Lossy, Reason};
 use sheet_check::check::{Order, Shop, Trace};
@@ -9,34 +8,19 @@ use std::io::{Error, ErrorKind, Read};
 use std::rt::Files;
 use std::{fs, io, str};
 
-// Two bytes past the largest sheet of a kind, so that a sheet that is too long is refused by its length, as any other.
-pub const SHOP_BYTES: usize = 2 * (Shop::SIZES + 2 * (Layout::MOST_ROWS as usize)) + 2;
+// One word past the largest sheet of a kind, so that a sheet that is too long is refused by its length, as any other.
+pub const SHOP_WORDS: usize = Shop::SIZES + 2 * (Layout::MOST_ROWS as usize) + 1;
 
-pub const ORDER_BYTES: usize = 2 * (Order::SIZES + 2 * (Layout::MOST_ROWS as usize)) + 2;
+pub const ORDER_WORDS: usize = Order::SIZES + 2 * (Layout::MOST_ROWS as usize) + 1;
 
-pub const TRACE_BYTES: usize = 2 * (Trace::SIZES + 2 * (Trace::MOST_STEPS as usize)) + 2;
+pub const TRACE_WORDS: usize = Trace::SIZES + 2 * (Trace::MOST_STEPS as usize) + 1;
 
-// The words of so many bytes.
-pub const SHOP_WORDS: usize = SHOP_BYTES / 2;
+// The bytes of so many words.
+pub const SHOP_BYTES: usize = 2 * SHOP_WORDS;
 
-pub const ORDER_WORDS: usize = ORDER_BYTES / 2;
+pub const ORDER_BYTES: usize = 2 * ORDER_WORDS;
 
-pub const TRACE_WORDS: usize = TRACE_BYTES / 2;
-
-// What came of reading a file: how many bytes stand in the room, or a failure that has been told.
-#[derive(Clone, Copy)]
-pub enum Reading {
-    Bytes(usize),
-    Failed,
-}
-
-// What came of one read. A failure has been told.
-#[derive(Clone, Copy)]
-enum Piece {
-    Bytes(usize),
-    Interrupted,
-    Failed,
-}
+pub const TRACE_BYTES: usize = 2 * TRACE_WORDS;
 
 // On standard error: the program, what it could not do (between a colon and the name), the file, and the operating system's reason.
 pub fn tell_failure(rt: &impl Eprint, program: &[u8], deed: &[u8], name: &[u8], error: Error) {
@@ -53,61 +37,24 @@ fn tell_unread(rt: &impl Eprint, program: &[u8], name: &[u8], error: Error) {
     tell_failure(rt, program, b": cannot read ", name, error);
 }
 
-// One read into the rest of the room; 0 bytes at the file's end.
-fn read_piece<F: Read>(
-    rt: &impl Eprint,
-    file: &mut F,
-    program: &[u8],
-    name: &[u8],
-    rest: &mut [u8],
-) -> Piece
-    ensures { PieceWithin (length rest.new) result }
-{
-    match file.read(rest) {
-        Ok(count) => Piece::Bytes(count),
-        Err(error) => {
-            if error.kind() == ErrorKind::Interrupted {
-                return Piece::Interrupted;
-            }
-            tell_unread(rt, program, name, error);
-            Piece::Failed
-        }
-    }
-}
-
-// Reads on until the room is full or the file ends; a read that a signal interrupts is made again. A proved loop has to end, and
-// nothing says that signals do, so the turns are counted down from a number that no run uses up.
-fn read_open<F: Read>(
-    rt: &impl Eprint,
-    file: &mut F,
-    program: &[u8],
-    name: &[u8],
-    room: &mut [u8],
-) -> Reading
-    ensures { Within (length room.new) result }
+// Reads on until the room is full or the file ends, and answers how many bytes came; a read that a signal interrupts is made again. A proved
+// loop has to end, and nothing says that signals do, so the turns are counted up to a number that no run reaches.
+fn read_open<F: Read>(file: &mut F, room: &mut [u8]) -> io::Result<usize>
+    ensures { IfOk result (λ count. count ≤ length room.new) }
 {
     let mut count = 0;
-    let mut turns = u64::MAX;
-    while turns > 0 {
-        turns -= 1;
-        if room.len() <= count {
-            return Reading::Bytes(count);
+    for _ in 0..u64::MAX {
+        if count == room.len() {
+            return Ok(count);
         }
-        match read_piece(rt, file, program, name, &mut room[count..]) {
-            Piece::Bytes(more) => {
-                if more == 0 {
-                    return Reading::Bytes(count);
-                }
-                count += more;
-            }
-            Piece::Interrupted => {}
-            Piece::Failed => {
-                return Reading::Failed;
-            }
+        match file.read(&mut room[count..]) {
+            Ok(0) => return Ok(count),
+            Ok(more) => count += more,
+            Err(error) if error.kind() == ErrorKind::Interrupted => {}
+            Err(error) => return Err(error),
         }
     }
-    tell_unread(rt, program, name, Error::from(ErrorKind::Interrupted));
-    Reading::Failed
+    Err(Error::from(ErrorKind::Interrupted))
 }
 
 // The path of a file of the current folder. A name that is no UTF-8 is refused.
@@ -122,20 +69,33 @@ fn open<R: Files>(rt: &R, name: &[u8]) -> io::Result<R::File> {
     fs::open(rt, path_of(name)?)
 }
 
-// Reads a file of the current folder into the room, as far as the room goes. A missing file is empty; one that is there and can't
-// be opened or read is told on standard error in the program's name, and is no empty file. What a file holds no contract says: which
-// bytes come, and how many, is left free, but no more than the room takes.
-pub fn read(rt: &(impl Files + Eprint), program: &[u8], name: &[u8], room: &mut [u8]) -> Reading
-    ensures { Within (length room.new) result }
+// The bytes of a file of the current folder go into the first ones of the room, as far as it goes. A missing file is empty. Answers how many.
+fn read_named(rt: &impl Files, name: &[u8], room: &mut [u8]) -> io::Result<usize>
+    ensures { IfOk result (λ count. count ≤ length room.new) }
 {
     match open(rt, name) {
-        Ok(mut file) => read_open(rt, &mut file, program, name, room),
+        Ok(mut file) => read_open(&mut file, room),
+        Err(error) if error.kind() == ErrorKind::NotFound => Ok(0),
+        Err(error) => Err(error),
+    }
+}
+
+// The bytes of a file of the current folder, as far as the room goes into which they are read. A missing file is empty; one that is there and
+// can't be opened or read is told on standard error in the program's name, and is no empty file. What a file holds no contract says: which
+// bytes come, and how many, is left free, but no more than the room takes.
+pub fn read<'a>(
+    rt: &(impl Files + Eprint),
+    program: &[u8],
+    name: &[u8],
+    room: &'a mut [u8],
+) -> Option<&'a [u8]>
+    ensures { IfSome result (λ bytes. length bytes.now ≤ length room.old) }
+{
+    match read_named(rt, name, room) {
+        Ok(count) => Some(&room[..count]),
         Err(error) => {
-            if error.kind() == ErrorKind::NotFound {
-                return Reading::Bytes(0);
-            }
             tell_unread(rt, program, name, error);
-            Reading::Failed
+            None
         }
     }
 }

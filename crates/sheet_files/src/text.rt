@@ -1,6 +1,7 @@
 // Numbers as decimal text, and the line that begins an answer. Document 01, "One core of sixty centimetres"; document 02, Req 01.
 ghost use Rattle.std.specs.Prelude.{◌≡◌, ◌++◌, ◌+◌, ◌≤◌, length, take};
 ghost use Rattle.std.proofs.Math.Seq.{paste};
+ghost use Rattle.hgn.specs.Questions.{no_refusal, placed};
 ghost use Rattle.sheet_rows.specs.Refusals.{refusal_of};
 ghost use Rattle.sheet_files.specs.Texts.{ended, heading, answer_line, number_bytes, heading_bytes};
 
@@ -23,18 +24,6 @@ impl Text {
     pub const HEADING_BYTES: usize = Text::NUMBER_BYTES * 5;
 }
 
-// Bytes go into the text.
-fn copy(from: &[u8], text: &mut [u8], at: usize)
-    requires { at + length from.now ≤ length text.old }
-    ensures { text.new ≡ paste text.old at from.now (length from.now) }
-{
-    let mut i = 0;
-    while i < from.len() {
-        text[at + i] = from[i];
-        i += 1;
-    }
-}
-
 // A number and the byte that ends it go behind the first bytes of the text. Answers how many there are now.
 pub fn put(text: &mut [u8], at: usize, number: u64, end: u8) -> usize
     requires { at + number_bytes ≤ length text.old }
@@ -44,7 +33,7 @@ pub fn put(text: &mut [u8], at: usize, number: u64, end: u8) -> usize
     let mut room = Buffer::new();
     let digits = room.format(number).as_bytes();
     let last = at + digits.len();
-    copy(digits, text, at);
+    text[at..last].copy_from_slice(digits);
     text[last] = end;
     last + 1
 }
@@ -69,10 +58,18 @@ pub fn put_heading(
     put(text, fourth, atom as u64, b'\n')
 }
 
-// The first line of a call that answers a number and a place and nothing else.
+// The first line of a call that is refused and answers a number and a place and nothing else. Answers how many bytes it has.
 pub fn put_refusal(text: &mut [u8], refusal: Refusal) -> usize
     requires { heading_bytes ≤ length text.old }
     ensures { take result text.new ≡ answer_line (refusal_of refusal) }
 {
-    put_heading(text, refusal.number, refusal.place, 0, 0, atoms::NO_ATOM)
+    put_heading(text, refusal.number(), refusal.place, 0, 0, atoms::NO_ATOM)
+}
+
+// The same of a call that is accepted: 0, and the place that it answers.
+pub fn put_accepted(text: &mut [u8], place: u16) -> usize
+    requires { heading_bytes ≤ length text.old }
+    ensures { take result text.new ≡ answer_line (placed place no_refusal) }
+{
+    put_heading(text, 0, place, 0, 0, atoms::NO_ATOM)
 }

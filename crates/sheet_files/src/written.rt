@@ -2,13 +2,15 @@
 // file or a line then holds no contract says: the bytes come from functions whose contracts do.
 use crate::file::{path_of, tell_failure};
 use std::fs::{OpenFile, OpenOptions};
-use std::io::{Error, Write};
+use std::io::Write;
 use std::rt::Files;
 use std::{fs, io};
 
-// On standard error, in the program's name, that the file `name` could not be written.
-fn tell_unwritten(rt: &impl Eprint, program: &[u8], name: &[u8], error: Error) {
-    tell_failure(rt, program, b": cannot write ", name, error);
+// The answer of a call that writes a sheet into lent room: the line on standard output and, where a sheet is written, the bytes of its file.
+#[derive(Clone, Copy)]
+pub struct Answer<'a> {
+    pub line: &'a [u8],
+    pub file: Option<&'a [u8]>,
 }
 
 // All the bytes go into the open file, which is then closed. What a close would tell of them no caller sees, so the system is first asked to
@@ -33,8 +35,34 @@ fn remove(rt: &impl Files, name: &[u8]) {
     }
 }
 
-// Makes the new file `made` with these bytes. Answers whether it stands there whole. Where not, this is told as of the file `name`, and what was made
-// is removed; a file that stood there before is not touched.
+// Whether it was written. Where not, standard error says so, in the program's name and of the file `name`.
+fn is_written(rt: &impl Eprint, program: &[u8], name: &[u8], outcome: io::Result<()>) -> bool {
+    match outcome {
+        Ok(()) => true,
+        Err(error) => {
+            tell_failure(rt, program, b": cannot write ", name, error);
+            false
+        }
+    }
+}
+
+// The same of a file that stands under the name `made`: where it was not written, what stands there is removed, once that is told.
+fn is_whole(
+    rt: &(impl Files + Eprint),
+    program: &[u8],
+    name: &[u8],
+    made: &[u8],
+    outcome: io::Result<()>,
+) -> bool {
+    let is_whole = is_written(rt, program, name, outcome);
+    if !is_whole {
+        remove(rt, made);
+    }
+    is_whole
+}
+
+// Makes the new file `made` with these bytes. Answers whether it stands there whole. Where not, this is told as of the file `name`, and what was
+// made is removed; a file that stood there before is not touched.
 fn make(
     rt: &(impl Files + Eprint),
     program: &[u8],
@@ -43,18 +71,8 @@ fn make(
     bytes: &[u8],
 ) -> bool {
     match create(rt, made) {
-        Ok(file) => match fill(file, bytes) {
-            Ok(()) => true,
-            Err(error) => {
-                tell_unwritten(rt, program, name, error);
-                remove(rt, made);
-                false
-            }
-        },
-        Err(error) => {
-            tell_unwritten(rt, program, name, error);
-            false
-        }
+        Ok(file) => is_whole(rt, program, name, made, fill(file, bytes)),
+        Err(error) => is_written(rt, program, name, Err(error)),
     }
 }
 
@@ -77,28 +95,13 @@ pub fn replace(
     made: &[u8],
     bytes: &[u8],
 ) -> bool {
-    if !make(rt, program, name, made, bytes) {
-        return false;
-    }
-    match rename(rt, made, name) {
-        Ok(()) => true,
-        Err(error) => {
-            tell_unwritten(rt, program, name, error);
-            remove(rt, made);
-            false
-        }
-    }
+    make(rt, program, name, made, bytes)
+        && is_whole(rt, program, name, made, rename(rt, made, name))
 }
 
 // A text goes to standard output. Answers whether all of it did; where not, standard error says so, in the program's name and of `what`.
 pub fn print(rt: &(impl Print + Eprint), program: &[u8], what: &[u8], text: &[u8]) -> bool {
-    match rt.write_all(text) {
-        Ok(()) => true,
-        Err(error) => {
-            tell_unwritten(rt, program, what, error);
-            false
-        }
-    }
+    is_written(rt, program, what, rt.write_all(text))
 }
 
 // The line of an answer goes to standard output. Where that fails, standard error says so.

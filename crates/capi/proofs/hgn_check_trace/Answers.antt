@@ -1,7 +1,7 @@
 -- What is written is the check's answer. Assumes nothing.
-use mathlib.Core.Path.{ap}
+use mathlib.Core.Path.{ap, ◌∙◌}
 use Rattle.capi.specs.Words.{refusal_words}
 use Rattle.capi.proofs.hgn_check_trace.Goals as goal
 
 pub returns : goal.returns
-returns c = ap refusal_words c.check_trace-trace_refusal.ensures
+returns c = c.passed_words.ensures ∙ ap refusal_words c.check_trace.ensures

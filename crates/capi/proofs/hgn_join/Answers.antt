@@ -3,4 +3,4 @@ use Rattle.capi.proofs.Leaving.{lent_left}
 use Rattle.capi.proofs.hgn_join.Goals as goal
 
 pub returns : goal.returns
-returns c = lent_left _ _ c.join-joined.ensures
+returns c = lent_left c.join.ensures c.passed_words.ensures

@@ -3,4 +3,4 @@ use Rattle.capi.proofs.Leaving.{lent_left}
 use Rattle.capi.proofs.hgn_search_2.Goals as goal
 
 pub returns : goal.returns
-returns c = lent_left _ _ c.search-found.ensures
+returns c = lent_left c.search.ensures c.found_words.ensures

@@ -1,50 +1,41 @@
 -- The steps that were taken have led to the record, and their bytes are counted (`Turning`). Assumes nothing.
-use native.Mathlib.Omega.{arith}
-use mathlib.Core.Path.{refl, sym, ◌∙◌}
+use mathlib.Core.Path.{refl, sym, ap, ◌∙◌}
 use borrow.Author.Rules.{rules}
-use Rattle.trace_reader.proofs.RowLaws.{row_past_steps, row_step, row_end}
-use Rattle.display_main.proofs.ShownTexts.{turning_none, turning_over, turning_ends, turning_more, counted, few_front}
+use Rattle.trace_reader.specs.declared.reader.Reader.{Reader}
+use Rattle.display_main.proofs.Checks.{taken_number, refused_number}
+use Rattle.display_main.proofs.ShownTexts.{turning_none, at_step, turning_over, turning_ends, turning_more, counted, few_front}
 use Rattle.display_main.proofs.answer.write_steps.Goals as goal
 
-pub loop-number-init : goal.loop-number-init
-loop-number-init g c = (turning_none _ _ _ _ _ c.requires.prepared.0, refl, search rules)
+pub loop-step-init : goal.loop-step-init
+loop-step-init g c =
+    let opened = c.into_iter-step-iterator.ensures.into_iter_gives in (
+      tt,
+      tt,
+      ap (λ (r : Reader). r.trace.now) opened ∙ ap (λ t. t.now) c.open-step-items.ensures.trace,
+      rw (ap (λ (r : Reader). r.row.0) opened ∙ c.open-step-items.ensures.row) (turning_none _ _ _ _ _ c.requires.prepared.0),
+      refl,
+    )
 
-pub returns-in_default : goal.returns-in_default
-returns-in_default g c = turning_over _ _ _ _ _ c.loop-number.invariant.0 (row_end c.step_at.ensures c.in_default.is)
+pub returns-in-Err : goal.returns-in-Err
+returns-in-Err g c =
+    let step = c.in-Some.ensures.steps in
+    let so_far = at_step _ _ _ _ step.numbered c.loop-step.invariant.2 c.loop-step.invariant.3 step.reads in
+    let bytes = counted _ _ c.in_ok-bytes.ensures (c.front.ensures ∙ c.take_turn-turn.ensures.text) in
+    turning_ends _ _ _ _ _ so_far.0 _ so_far.1 c.take_turn-turn.result.shown c.take_turn-turn.ensures.shown bytes (refused_number c.in-Err.is)
 
-pub take_turn-turn-requires : goal.take_turn-turn-requires
-take_turn-turn-requires g c =
-    record {
-      indexed = (c.requires.prepared.0.indexed, omega (arith, c.requires.prepared.1, c.loop-number.invariant.1));
-      going = (c.loop-number.invariant.0.going, search rules);
-    }
-
-pub write_out-requires : goal.write_out-requires
-write_out-requires g c = omega (arith, c.loop-number.invariant.0.few, c.loop-number-test.true, c.loop-number.invariant.2, c.requires.before_le_moment_bytes, few_front _ _ c.front.ensures c.take_turn-turn.ensures.few)
-
-pub returns-then-refusal-ne0 : goal.returns-then-refusal-ne0
-returns-then-refusal-ne0 g c =
-    let m = counted c.write_out.result _ _ c.write_out.ensures c.in-Bytes.is
-    (c.front.ensures ∙ c.take_turn-turn.ensures.text) in
-    turning_ends _ _ _ _ _ c.loop-number.invariant.0 _ (row_step c.step_at.ensures c.in-Step.is) c.take_turn-turn.result.shown
-    c.take_turn-turn.ensures.shown m c.if-refusal-ne0.true
-
-pub overflow_add-number : goal.overflow_add-number
-overflow_add-number g c = omega (arith, c.loop-number-test.true, c.loop-number.invariant.2)
-
-pub loop-number-smaller : goal.loop-number-smaller
-loop-number-smaller g c = omega (arith, c.loop-number-test.true, c.loop-number.invariant.2)
-
-pub loop-number-preserved : goal.loop-number-preserved
-loop-number-preserved g c =
-    let m = counted c.write_out.result _ _ c.write_out.ensures c.in-Bytes.is
-    (c.front.ensures ∙ c.take_turn-turn.ensures.text) in (
-      turning_more _ _ _ _ _ c.loop-number.invariant.0 _ (row_step c.step_at.ensures c.in-Step.is) c.take_turn-turn.result.shown
-          c.take_turn-turn.ensures.shown m
-          (few_front _ _ (sym c.take_turn-turn.ensures.text) c.take_turn-turn.ensures.few) c.if-refusal-ne0.false,
+pub loop-step-preserved : goal.loop-step-preserved
+loop-step-preserved g c =
+    let step = c.in-Some.ensures.steps in
+    let so_far = at_step _ _ _ _ step.numbered c.loop-step.invariant.2 c.loop-step.invariant.3 step.reads in
+    let bytes = counted _ _ c.in_ok-bytes.ensures (c.front.ensures ∙ c.take_turn-turn.ensures.text) in
+    let few = few_front _ _ (sym c.take_turn-turn.ensures.text) c.take_turn-turn.ensures.few in (
+      tt,
+      tt,
+      ap (λ t. t.now) step.held ∙ c.loop-step.invariant.2,
+      rw (step.onward, ← step.numbered)
+          (turning_more _ _ _ _ _ so_far.0 _ so_far.1 c.take_turn-turn.result.shown c.take_turn-turn.ensures.shown bytes few (taken_number c.in-Ok.is)),
       search rules,
-      c.loop-number.invariant.2,
     )
 
 pub returns : goal.returns
-returns g c = turning_over _ _ _ _ _ c.loop-number.invariant.0 (row_past_steps _ _ (omega (arith, c.of-sizes.ensures.steps, c.loop-number-test.false)))
+returns g c = turning_over _ _ _ _ _ c.loop-step.invariant.3 (rw c.loop-step.invariant.2 at c.in-None.ensures.steps.0)

@@ -5,5 +5,5 @@ use Rattle.display_main.proofs.moment.put_goal.Goals as goal
 
 pub returns-clause-text : goal.returns-clause-text
 returns-clause-text c =
-    let front = take c.args.at c.args.text.now in
-    goal_is _ _ c.requires.within.0 front c.entry_at-goal.ensures c.is_free.ensures c.word_of-free.ensures c.method_of.ensures c.put_four.ensures.text
+    goal_is c.args.waiting.now _ (take c.args.at c.args.text.now) c.entry_at-goal.ensures c.is_free.ensures c.from-free.ensures c.step_of.ensures c.method_of.ensures
+    c.put_numbers.ensures.text

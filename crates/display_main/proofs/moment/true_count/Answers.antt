@@ -1,15 +1,13 @@
--- The facts that the loop leaves. Assumes nothing.
-use Rattle.display_main.proofs.AtomLines.{counted_none, counted_in, counted_out, counted_all}
+-- The atoms that pass are those that are true. Assumes nothing.
+use Rattle.std.proofs.Common.{Bool, ◌∙◌, rules}
+use Rattle.std.proofs.lemmas.Iterator.{YieldsList-from_slice}
+use Rattle.std.proofs.lemmas.Iterator.Consumers.{YieldsList-from_filter, count_from_yields_List}
+use borrow.Author.Tests.{tests}
+use Rattle.display_main.proofs.AtomLines.{true_counted}
 use Rattle.display_main.proofs.moment.true_count.Goals as goal
 
-pub loop-i-init : goal.loop-i-init
-loop-i-init c = counted_none _
-
-pub loop-i-preserved-then-atoms-atom : goal.loop-i-preserved-then-atoms-atom
-loop-i-preserved-then-atoms-atom c = counted_in _ _ _ c.loop-i.invariant c.loop-i-test.true c.if-atoms-atom.true
-
-pub loop-i-preserved : goal.loop-i-preserved
-loop-i-preserved c = counted_out _ _ _ c.loop-i.invariant c.loop-i-test.true c.if-atoms-atom.false
-
 pub returns : goal.returns
-returns c = counted_all _ _ _ c.loop-i.invariant c.loop-i-test.false
+returns c =
+    count_from_yields_List c.filter.result _ c.count.ensures.ran
+    (YieldsList-from_filter _ (λ (b : Bool). b) (YieldsList-from_slice c.args.atoms.now (cc)) c.filter.ensures.closure (λ x b q k. search (rules, tests)))
+    ∙ true_counted 0 c.args.atoms.now

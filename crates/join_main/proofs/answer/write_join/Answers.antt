@@ -1,13 +1,15 @@
 -- The line is that of the join's answer, and the file that of its room. Assumes nothing.
+use Rattle.std.proofs.Common.{refl, ◌∙◌}
 use Rattle.hgn.specs.JoinSheet.{sheet_in}
+use Rattle.sheet_rows.proofs.Laws.{numbered}
 use Rattle.sheet_files.proofs.Answered.{answered_refused, answered_written}
 use Rattle.join_main.specs.Printed.{printed, order_file}
 use Rattle.join_main.proofs.answer.write_join.Goals as goal
 
-pub returns-then-refusal-eq0 : goal.returns-then-refusal-eq0
+pub returns-in-Ok : goal.returns-in-Ok
 unfolding order_file printed
-returns-then-refusal-eq0 c = answered_written c.join_bytes-refusal.ensures (λ l. sheet_in l.room) c.if-refusal-eq0.true c.put_refusal-end.ensures c.sheet_bytes-size.ensures
+returns-in-Ok c = answered_written c.in-Ok.ensures (λ l. sheet_in l.room) refl (c.front.ensures ∙ c.put_accepted-end.ensures) c.sheet_bytes.ensures
 
-pub returns : goal.returns
+pub returns-in-Err : goal.returns-in-Err
 unfolding printed
-returns c = answered_refused c.join_bytes-refusal.ensures c.if-refusal-eq0.false c.put_refusal-end.ensures
+returns-in-Err c = answered_refused c.in-Err.ensures (numbered c.in-Err.refusal.question) (c.front-in-Err.ensures ∙ c.put_refusal-end.ensures)

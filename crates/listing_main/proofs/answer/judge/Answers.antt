@@ -1,11 +1,19 @@
--- The replay's number tells which it is, and its heading is put. Assumes nothing.
-use Rattle.listing_main.proofs.Judging.{judged_accepted, judged_refused, heading_is_all}
+-- The replay's answer tells which it is, and its heading is put. Assumes nothing.
+use Rattle.std.proofs.Common.{ℕ, List, ap₂, ap, sym, ◌∙◌}
+use Rattle.hgn.specs.Replay.{Replayed, refusal}
+use Rattle.sheet_files.specs.Texts.{heading}
+use Rattle.sheet_rows.proofs.Laws.{numbered}
+use Rattle.listing_main.proofs.Judging.{judged_refused, heading_is_all}
 use Rattle.listing_main.proofs.answer.judge.Goals as goal
 
-pub returns-then-refusal-eq0 : goal.returns-then-refusal-eq0
-returns-then-refusal-eq0 c = judged_accepted _ _ _ c.replay-answer.ensures c.if-refusal-eq0.true
+pub returns-in-Ok : goal.returns-in-Ok
+returns-in-Ok c = sym (ap (λ (r : Replayed). r.answer.refusal.number) c.in-Ok.ensures)
 
-pub returns : goal.returns
-returns c =
-    let called = c.replay-answer.ensures in
-    (judged_refused _ _ _ called c.if-refusal-eq0.false, heading_is_all _ _ _ called c.if-refusal-eq0.false c.put_heading-end.ensures.text)
+pub returns-in-Err : goal.returns-in-Err
+unfolding refusal
+returns-in-Err c =
+    let q = c.in-Err.failure.refusal.question in (
+      judged_refused _ _ _ c.in-Err.ensures (numbered q),
+      heading_is_all _ _ _ c.in-Err.ensures (numbered q)
+          (c.put_heading.ensures.text ∙ ap₂ {C = List ℕ} (λ (n a : ℕ). heading n c.in-Err.failure.refusal.place 0 0 a) c.number.ensures c.atom_word.ensures),
+    )

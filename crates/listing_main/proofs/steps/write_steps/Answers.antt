@@ -1,34 +1,35 @@
 -- Each turn goes on from the row, the record and the room that the one before it left (`TurnsSoFar`). Assumes nothing.
-use native.Mathlib.Omega.{arith}
 use mathlib.Core.Path.{ap, ◌∙◌}
 use borrow.Author.Rules.{rules}
-use Rattle.sheet_check.specs.declared.rows.Row.{Row}
-use Rattle.listing_main.proofs.TurnsSoFar.{begun, row_few, turning, turned}
+use Rattle.trace_reader.specs.declared.reader.Reader.{Reader}
+use Rattle.listing_main.proofs.TurnsSoFar.{begun, over, narrow, turned}
 use Rattle.listing_main.proofs.steps.write_steps.Goals as goal
 
-pub loop-progress-init : goal.loop-progress-init
-loop-progress-init g c = (ap (λ t. t.now) c.open-reader.ensures.0, begun c.open-reader.ensures.1 c.requires.1)
+pub loop-step-init : goal.loop-step-init
+loop-step-init g c =
+    let opened = c.into_iter-step-iterator.ensures.into_iter_gives in (
+      tt,
+      tt,
+      ap (λ (r : Reader). r.trace.now) opened ∙ ap (λ t. t.now) c.open-step-items.ensures.trace,
+      begun (ap (λ (r : Reader). r.row.0) opened ∙ c.open-step-items.ensures.row) c.requires.1,
+    )
 
-pub turn-progress-requires : goal.turn-progress-requires
-turn-progress-requires g c =
-    let l = c.loop-progress in
-    let at = ap (λ (r : Row). r.0) c.row.ensures in
-    (c.requires.0, turning l.invariant.1 c.loop-progress-test.true l.invariant.0 c.read.result at c.read.ensures c.requires.1.roomy)
+pub put_piece-end-requires-clause-narrow : goal.put_piece-end-requires-clause-narrow
+put_piece-end-requires-clause-narrow g c =
+    let step = c.in-Some.ensures.steps in
+    let so_far = c.loop-step.invariant in
+    narrow so_far.3 so_far.2 step.reads step.numbered c.take_step-told.ensures
 
-pub advance-requires : goal.advance-requires
-advance-requires g c = row_few c.loop-progress.invariant.1 c.loop-progress-test.true
-
-pub loop-progress-smaller : goal.loop-progress-smaller
-loop-progress-smaller g c =
-    omega (arith, row_few c.loop-progress.invariant.1 c.loop-progress-test.true, c.advance.ensures.1)
-
-pub loop-progress-preserved : goal.loop-progress-preserved
-loop-progress-preserved g c =
-    let l = c.loop-progress in
-    let at = ap (λ (r : Row). r.0) c.row.ensures in (
-      ap (λ t. t.now) c.advance.ensures.0 ∙ l.invariant.0,
-      turned l.invariant.1 c.loop-progress-test.true l.invariant.0 c.read.result at c.read.ensures c.advance.ensures.1 (search rules) c.turn-progress.ensures,
+pub loop-step-preserved : goal.loop-step-preserved
+loop-step-preserved g c =
+    let step = c.in-Some.ensures.steps in
+    let so_far = c.loop-step.invariant in (
+      tt,
+      tt,
+      ap (λ t. t.now) step.held ∙ so_far.2,
+      turned so_far.3 so_far.2 step.reads step.numbered c.take_step-told.ensures c.in-Some-make_space.ensures (search rules)
+          c.put_piece-end.ensures.few c.put_piece-end.ensures.text step.onward,
     )
 
 pub returns : goal.returns
-returns g c = c.loop-progress.invariant.1.over c.loop-progress-test.false
+returns g c all = over c.loop-step.invariant.3 c.loop-step.invariant.2 c.in-None.ensures.steps.0

@@ -1,23 +1,21 @@
--- The heading of the answer, then the lines of its plan. Assumes nothing.
-use Prim.Native.Nat.{ℕ}
-use native.Mathlib.Omega.{arith}
-use mathlib.Core.Path.{ap}
-use lib.ListN.{length, length-take, length-replicate}
-use Rattle.hgn.specs.Trace.{most_steps}
+-- The heading of the answer, then the lines of its plan; of a refusal the heading alone. Assumes nothing.
+use Rattle.std.proofs.Common.{ℕ, List, refl, ap₂, ◌∙◌}
+use Rattle.hgn.specs.Replay.{refusal}
+use Rattle.sheet_files.specs.Texts.{heading}
 use Rattle.replay_main.specs.Printed.{printed}
-use Rattle.replay_main.proofs.Answering.{text_is}
+use Rattle.replay_main.proofs.Answering.{text_is, heading_is_text}
 use Rattle.replay_main.proofs.answer.write_answer.Goals as goal
 
-pub put_lines-requires : goal.put_lines-requires
-put_lines-requires c = let r = c.replay_bytes-answer in
-    omega (
-      arith,
-      ap length c.front_words.ensures,
-      length-take r.result.count r.new.plan,
-      length-replicate {A = ℕ} most_steps 0,
-      c.put_heading-end.ensures.few,
-    )
-
-pub returns : goal.returns
+pub returns-in-Ok : goal.returns-in-Ok
 unfolding printed
-returns c = text_is _ _ _ c.replay_bytes-answer.ensures c.put_heading-end.ensures.text c.front_words.ensures c.put_lines.ensures
+returns-in-Ok c =
+    c.front-in-Ok.ensures ∙ text_is _ _ _ c.in-Ok.ensures c.put_heading-heading.ensures.text
+    (rw c.from.ensures at c.front.ensures) c.put_lines-end.ensures
+
+pub returns-in-Err : goal.returns-in-Err
+unfolding printed refusal
+returns-in-Err c =
+    c.front-in-Err.ensures
+    ∙ heading_is_text c.in-Err.ensures
+    (c.put_heading-end.ensures.text
+    ∙ ap₂ {C = List ℕ} (λ (n a : ℕ). heading n c.in-Err.failure.refusal.place 0 0 a) c.number.ensures c.atom_word.ensures) refl

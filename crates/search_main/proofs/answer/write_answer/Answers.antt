@@ -1,13 +1,15 @@
 -- The line is that of the search's answer, and the file that of its room. Assumes nothing.
+use Rattle.std.proofs.Common.{refl, ◌∙◌}
+use Rattle.sheet_rows.proofs.Laws.{numbered}
 use Rattle.sheet_files.proofs.Answered.{answered_refused, answered_written}
 use Rattle.search_main.specs.Printed.{printed, trace_in, trace_file}
 use Rattle.search_main.proofs.answer.write_answer.Goals as goal
 
-pub returns-then-refusal-eq0 : goal.returns-then-refusal-eq0
+pub returns-in-Ok : goal.returns-in-Ok
 unfolding printed trace_file
-returns-then-refusal-eq0 c = answered_written c.search_bytes-refusal.ensures (λ s. trace_in s.refusal.place s.room) c.if-refusal-eq0.true c.put_refusal-end.ensures
-    c.trace_bytes-size.ensures
+returns-in-Ok c =
+    answered_written c.in-Ok.ensures (λ s. trace_in s.refusal.place s.room) refl (c.front.ensures ∙ c.put_accepted-end.ensures) c.trace_bytes.ensures
 
-pub returns : goal.returns
+pub returns-in-Err : goal.returns-in-Err
 unfolding printed
-returns c = answered_refused c.search_bytes-refusal.ensures c.if-refusal-eq0.false c.put_refusal-end.ensures
+returns-in-Err c = answered_refused c.in-Err.ensures (numbered c.in-Err.refusal.question) (c.front-in-Err.ensures ∙ c.put_refusal-end.ensures)

@@ -1,35 +1,22 @@
 -- The facts that the loop leaves. Assumes nothing.
-use native.Mathlib.Omega.{arith}
-use mathlib.Core.Path.{sym, ◌∙◌}
-use Rattle.search_main.proofs.Depths.{read_none, read_more, read_stop, read_all, empty_is_none}
+use Rattle.std.proofs.Common.{get_or, sym, ◌∙◌, arith}
+use Rattle.std.proofs.lemmas.Bool.Decides.{nat_tests}
+use Rattle.search_main.proofs.Depths.{digit_is, read_more, read_stop, read_all, empty_is_none}
 use Rattle.search_main.proofs.depth.depth_of.Goals as goal
 
-pub returns-then-text-eq0 : goal.returns-then-text-eq0
-returns-then-text-eq0 c = empty_is_none _ c.if-text-eq0.true
+pub returns-then-is_empty : goal.returns-then-is_empty
+returns-then-is_empty c = empty_is_none _ (grind (arith, nat_tests))
 
-pub loop-i-init : goal.loop-i-init
-loop-i-init c = read_none _
+pub loop-byte-preserved : goal.loop-byte-preserved
+loop-byte-preserved c =
+    let byte = get_or c.args.text.now c.loop-byte.byte-index 0 in
+    read_more _ c.loop-byte.invariant (omega arith) (digit_is byte ∙ sym c.is_ascii_digit.ensures.value ∙ c.if-not-is_ascii_digit.false)
+    c.behind-depth.ensures
 
-pub bounds-text-i : goal.bounds-text-i
-bounds-text-i c = omega arith
-
-pub bounds-text-i-then-is_digit : goal.bounds-text-i-then-is_digit
-bounds-text-i-then-is_digit c = omega arith
-
-pub behind-depth-requires : goal.behind-depth-requires
-behind-depth-requires c = (c.loop-i.invariant.low, sym c.is_digit.ensures ∙ c.if-is_digit.true)
-
-pub overflow_add-i : goal.overflow_add-i
-overflow_add-i c = omega arith
-
-pub loop-i-smaller : goal.loop-i-smaller
-loop-i-smaller c = omega arith
-
-pub loop-i-preserved : goal.loop-i-preserved
-loop-i-preserved c = read_more _ c.loop-i.invariant (omega arith) (sym c.is_digit.ensures ∙ c.if-is_digit.true) c.behind-depth.ensures
-
-pub returns-else-is_digit : goal.returns-else-is_digit
-returns-else-is_digit c = read_stop _ c.loop-i.invariant (omega arith) (sym c.is_digit.ensures ∙ c.if-is_digit.false)
+pub returns-then-not-is_ascii_digit : goal.returns-then-not-is_ascii_digit
+returns-then-not-is_ascii_digit c =
+    let byte = get_or c.args.text.now c.loop-byte.byte-index 0 in
+    read_stop _ c.loop-byte.invariant (omega arith) (digit_is byte ∙ sym c.is_ascii_digit.ensures.value ∙ c.if-not-is_ascii_digit.true)
 
 pub returns : goal.returns
-returns c = read_all _ c.loop-i.invariant (omega arith) (omega (arith, c.if-text-eq0.false))
+returns c = read_all _ c.loop-byte.invariant (omega arith) (grind (arith, nat_tests))

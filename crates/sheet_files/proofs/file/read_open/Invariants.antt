@@ -1,11 +1,6 @@
--- The room keeps its length, and no more bytes came than it takes; the turns fall. Assumes nothing.
-use Prim.Native.Nat.{◌≤◌}
-use mathlib.Core.Path.{◌≡◌}
-use lib.ListN.{length}
+-- No more bytes came than the room takes, which keeps its length. Assumes nothing.
+use Rattle.std.proofs.Common.{◌≡◌, ◌≤◌, length}
 use Rattle.sheet_files.proofs.file.read_open.Given as goal
 
-abbrev pub invariant-loop-turns : goal.invariant-loop-turns
-invariant-loop-turns o l = (l.count ≤ length l.initial.room) × (length l.room ≡ length l.initial.room)
-
-abbrev pub decreases-loop-turns : goal.decreases-loop-turns
-decreases-loop-turns o l = l.turns
+abbrev pub invariant-loop : goal.invariant-loop
+invariant-loop g l = (l.count ≤ length l.room) × (length l.room ≡ length l.initial.room)

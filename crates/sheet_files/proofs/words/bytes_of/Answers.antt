@@ -1,59 +1,23 @@
--- The facts that the loop leaves. Assumes nothing.
-use Prim.Native.Nat.{◌*◌}
-use native.Mathlib.Omega.{arith}
-use mathlib.Core.Path.{sym}
-use borrow.Author.Rules.{rules}
-use lib.ListN.{length-set}
-use Rattle.sheet_files.proofs.ByIndex.{length_bytes, bytes_fit, filling_none, filling_length, filling_two, filled}
+-- Each turn puts in the two bytes of a word, and the rest stays. Assumes nothing.
+use Rattle.std.proofs.Common.{◌≡◌, ◌+◌, ◌-◌, ◌*◌, ◌∙◌, ap, arith, refl, length}
+use Rattle.std.proofs.lemmas.Slice.{drop-put_mid}
+use Rattle.sheet_files.specs.Words.{bytes_of}
+use Rattle.sheet_files.proofs.ByIndex.{bytes_more, bytes_whole}
 use Rattle.sheet_files.proofs.words.bytes_of.Goals as goal
 
 pub loop-i-init : goal.loop-i-init
-loop-i-init c = filling_none _ _ (bytes_fit _ (search rules))
-
-pub offset_bounds-words-i : goal.offset_bounds-words-i
-offset_bounds-words-i c = omega arith
-
-pub bounds-words-i : goal.bounds-words-i
-bounds-words-i c = omega arith
-
-pub overflow_mul-room : goal.overflow_mul-room
-overflow_mul-room c = omega arith
-
-pub bounds-room-i : goal.bounds-room-i
-bounds-room-i c = omega (arith, filling_length _ _ (bytes_fit _ (search rules)) _ _ c.loop-i.invariant)
-
-pub offset_bounds-words-i-in-loop-i : goal.offset_bounds-words-i-in-loop-i
-offset_bounds-words-i-in-loop-i c = omega arith
-
-pub bounds-words-i-in-loop-i : goal.bounds-words-i-in-loop-i
-bounds-words-i-in-loop-i c = omega arith
-
-pub overflow_mul-room-in-loop-i : goal.overflow_mul-room-in-loop-i
-overflow_mul-room-in-loop-i c = omega arith
-
-pub overflow_add-room : goal.overflow_add-room
-overflow_add-room c = omega arith
-
-pub bounds-room-i-in-loop-i : goal.bounds-room-i-in-loop-i
-bounds-room-i-in-loop-i c =
-    let l = c.loop-i in
-    omega (arith, length-set l.room (2 * l.i) c.low_byte.result, filling_length _ _ (bytes_fit _ (search rules)) _ _ l.invariant)
-
-pub overflow_add-i : goal.overflow_add-i
-overflow_add-i c = omega arith
-
-pub loop-i-smaller : goal.loop-i-smaller
-loop-i-smaller c = omega arith
+unfolding bytes_of
+loop-i-init c = (refl, refl)
 
 pub loop-i-preserved : goal.loop-i-preserved
 loop-i-preserved c =
-    filling_two _ _ (search rules) _ _ _ _ c.loop-i.invariant (omega arith) c.low_byte.ensures c.high_byte.ensures
-
-pub overflow_mul-result : goal.overflow_mul-result
-overflow_mul-result c = omega arith
-
-pub shape_of-room : goal.shape_of-room
-shape_of-room c = filling_length _ _ (bytes_fit _ (search rules)) _ _ c.loop-i.invariant
+    let i = c.loop-i.i in
+    let bytes = c.copy_from_slice.ensures.after ∙ c.to_le_bytes.ensures in
+    let long : length c.copy_from_slice.new.self ≡ 2 = ap length bytes in (
+      bytes_more c.args.words.now _ _ _ _ (omega arith) (omega arith) (omega (arith, c.type_inv.words i)) c.loop-i.invariant.0 (omega arith) bytes,
+      drop-put_mid (2 * i) (2 * i + 2 - 2 * i) c.loop-i.room _ (2 * length c.args.words.now) (omega arith) (omega arith) (omega (arith, long))
+          ∙ c.loop-i.invariant.1,
+    )
 
 pub returns : goal.returns
-returns c = filled _ _ (bytes_fit _ (search rules)) _ _ _ c.loop-i.invariant (bytes_fit _ (omega arith)) (sym (length_bytes _))
+returns c = bytes_whole c.args.words.now _ _ _ (omega arith) c.loop-i.invariant.0 c.loop-i.invariant.1
