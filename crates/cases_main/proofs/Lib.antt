@@ -3,5 +3,4 @@ pub mod Texts
 pub mod Plains
 pub mod Pairs
 pub mod Rooms
-pub mod Calls
 pub mod Accepted

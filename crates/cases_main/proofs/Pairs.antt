@@ -12,7 +12,6 @@ use lib.Seq.{drop-cons, get_or-set_same, get_or-set_other, ext_get_or}
 use Rattle.hgn.specs.Lists.{any}
 use Rattle.hgn.specs.Rows.{Row, row, rows_of}
 use Rattle.sheet_check.proofs.Lookup.{rows_length, rows_at}
-use Rattle.sheet_index.specs.Index.{part_rows}
 use Rattle.cases_main.specs.Relevances.{pairs, is_wanted, goal_tags, action_tags, tags_of}
 
 pub length_pairs : (words : List ℕ) → length (pairs words) ≡ length words / 2
@@ -111,12 +110,8 @@ module _ (words before room : List ℕ) (i : ℕ) (fits : length words ≤ lengt
       ∙ rw (zero-add j, zero-add n) (ap₂ row (l.tags j (omega arith) m) (l.values j (omega arith) m))
       ∙ sym (pair_at words j m))
 
--- The rows in a room's first words, as one part of it and as a part of tags and one of values.
+-- The rows in a room's first words, by their tags and their values.
 module _ (n : ℕ) (words : List ℕ) where
-  pub as_part : part_rows words (record { tags = 0; values = n; rows = n }) ≡ rows_of 0 n words
-  unfolding part_rows rows_of
-  as_part = rw (zero-add n)
-
   pub as_columns : zip_with row (take (n - 0) (drop 0 words)) (take (n + n - n) (drop n words)) ≡ rows_of 0 n words
   unfolding rows_of
   as_columns =

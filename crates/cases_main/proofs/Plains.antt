@@ -1,13 +1,11 @@
 -- The tests of a plain byte and of a plain text. Assumes nothing.
-use Prim.Native.Nat.{ℕ, ◌+◌, ◌<◌, ◌≤◌}
+use Prim.Native.Nat.{ℕ, ◌<◌, ◌≤◌}
 use native.Mathlib.Omega.{arith}
-use native.Mathlib.Numerals.{add-one}
-use mathlib.Core.Path.{◌≡◌, sym, ◌∙◌}
+use mathlib.Core.Path.{◌≡◌, refl, ap}
 use mathlib.Core.Bool.{Bool, true, false, ◌&&◌}
-use mathlib.Core.List.{List}
+use mathlib.Core.List.{List, [], ◌∷◌}
 use mathlib.Core.Logic.{inl, inr}
-use lib.ListN.{length, get_or, drop, drop_of_length-le}
-use lib.Seq.{drop-cons}
+use Rattle.std.specs.List.{list_all}
 use types.Run.{OneOf}
 use borrow.Author.Tests.{le-leb, lt-leb, ne_eqb}
 use Rattle.hgn.specs.Lists.{any, all, elem}
@@ -65,19 +63,8 @@ module _ (b : ℕ) where
     unfolding plain_byte
     above_digits l = rw (unmarked h, over 40 41 (omega arith) (omega arith), over 48 57 (omega arith) l)
 
--- Where every byte before a place is plain, the whole text is as plain as what is left.
-module _ (text : List ℕ) (at : ℕ) (so_far : all plain_byte (drop at text) ≡ all plain_byte text) where
-  here : at < length text → plain_byte (get_or text at 0) && all plain_byte (drop (at + 1) text) ≡ all plain_byte text
-  unfolding all
-  here h = rw (add-one at) (rw (drop-cons text at 0 h) at so_far)
-
-  pub not_plain : {answer : Bool} → at < length text → answer ≡ plain_byte (get_or text at 0) → answer ≡ false → false ≡ all plain_byte text
-  not_plain h e left = rw (sym e ∙ left) at (here h)
-
-  pub plain_on : {answer : Bool} → at < length text → answer ≡ plain_byte (get_or text at 0) → answer ≡ true
-      → all plain_byte (drop (at + 1) text) ≡ all plain_byte text
-  plain_on h e taken = rw (sym e ∙ taken) at (here h)
-
-  pub all_plain : length text ≤ at → true ≡ all plain_byte text
-  unfolding all
-  all_plain h = rw (drop_of_length-le text h) at so_far
+-- The test of every byte, as the library's `all` has it.
+pub all_listed : (text : List ℕ) → list_all plain_byte text ≡ all plain_byte text
+unfolding all
+all_listed [] = refl
+all_listed (b ∷ text) = ap (λ (r : Bool). plain_byte b && r) (all_listed text)

@@ -1,9 +1,7 @@
 -- The words that a line of the input may begin with, as bytes of ASCII.
-use Rattle.std.specs.Prelude.{ℕ, ◌≡◌, List, [], ◌∷◌}
+use Rattle.std.specs.Prelude.{ℕ, ◌≡◌, List, [], ◌∷◌, Option, None, Some}
 use Rattle.cases_main.specs.declared.call.Call.{Call}
 use Rattle.cases_main.specs.declared.call.Call.TheVariants.{Shop, Order, Trace, Replay, Search, Join, Display, Listing, Goals}
-use Rattle.cases_main.specs.declared.call.Named.{Named}
-use Rattle.cases_main.specs.declared.call.Named.TheVariants as Is
 
 -- `with` and a blank.
 abbrev pub with_word : List ℕ
@@ -26,6 +24,6 @@ name_of Listing = 108 ∷ 105 ∷ 115 ∷ 116 ∷ 105 ∷ 110 ∷ 103 ∷ []
 name_of Goals = 103 ∷ 111 ∷ 97 ∷ 108 ∷ 115 ∷ []
 
 -- The call of this name, or nothing where no call has it.
-abbrev pub NamedBy : List ℕ → Named → Type 0
-NamedBy name (Is.Call call) = name ≡ name_of call
-NamedBy name Is.Nothing = (call : Call) → name ≡ name_of call → ⊥
+abbrev pub NamedBy : List ℕ → Option Call → Type 0
+NamedBy name (Some call) = name ≡ name_of call
+NamedBy name None = (call : Call) → name ≡ name_of call → ⊥

@@ -1,5 +1,5 @@
 -- What a case of relevance gives, and what is told of it. Document 02, Req 04.
-use Rattle.std.specs.Prelude.{ℕ, ◌%◌, ◌≡◌, Bool, cond, length}
+use Rattle.std.specs.Prelude.{ℕ, ◌%◌, ◌≡◌, Bool, cond, length, Option, None, Some}
 use mathlib.Core.List.{List, [], ◌∷◌, flatten}
 use Rattle.hgn.specs.Lists.{any, elem}
 use Rattle.hgn.specs.Rows.{Row, row}
@@ -9,8 +9,6 @@ use Rattle.hgn.specs.Relevance.{relevance}
 use Rattle.state.specs.declared.literals.LiteralTags.{LiteralTags}
 use Rattle.state.specs.Relevances.{relevance_of, effects_in}
 use Rattle.cases_main.specs.declared.relevances.Told.{Told}
-use Rattle.cases_main.specs.declared.relevances.Answer.{Answer}
-use Rattle.cases_main.specs.declared.relevances.Answer.TheVariants as Is
 
 -- The most words of a side: those of the room that it is read into.
 abbrev pub most_words : ℕ
@@ -46,6 +44,6 @@ pub record ToldOf (effects wanted : List Row) (told : Told) : Type 0 where
   pub tells : relevance_of told.relevance ≡ relevance (effects_in (tags_of effects) effects) (flatten (node_of wanted).formula)
 
 -- What is told where every tag of two lists of words has its value; else nothing.
-abbrev pub AnsweredBy : List ℕ → List ℕ → Answer → Type 0
-AnsweredBy effects wanted (Is.Told told) = (length effects % 2 ≡ 0) × (length wanted % 2 ≡ 0) × ToldOf (pairs effects) (pairs wanted) told
-AnsweredBy effects wanted Is.Unreadable = length effects % 2 ≡ 0 → length wanted % 2 ≡ 0 → ⊥
+abbrev pub AnsweredBy : List ℕ → List ℕ → Option Told → Type 0
+AnsweredBy effects wanted (Some told) = (length effects % 2 ≡ 0) × (length wanted % 2 ≡ 0) × ToldOf (pairs effects) (pairs wanted) told
+AnsweredBy effects wanted None = length effects % 2 ≡ 0 → length wanted % 2 ≡ 0 → ⊥

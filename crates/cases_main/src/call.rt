@@ -3,7 +3,6 @@
 ghost use Rattle.cases_main.specs.Names.{NamedBy};
 
 use crate::stepping::View;
-use crate::text::equals;
 use crate::{joined, line, listed, replayed, room, searched, sheet, stepping};
 use sheet_check::check::{check_order, check_shop, check_trace};
 
@@ -20,45 +19,23 @@ pub enum Call {
     Goals,
 }
 
-// What a name is the name of.
-#[derive(Clone, Copy)]
-pub enum Named {
-    Call(Call),
-    Nothing,
-}
-
 impl Call {
-    pub fn named(name: &[u8]) -> Named
+    // The call of this name, if there is one.
+    pub fn named(name: &[u8]) -> Option<Call>
         ensures { NamedBy name.now result }
     {
-        if equals(name, b"shop") {
-            return Named::Call(Call::Shop);
+        match name {
+            b"shop" => Some(Call::Shop),
+            b"order" => Some(Call::Order),
+            b"trace" => Some(Call::Trace),
+            b"replay" => Some(Call::Replay),
+            b"search" => Some(Call::Search),
+            b"join" => Some(Call::Join),
+            b"display" => Some(Call::Display),
+            b"listing" => Some(Call::Listing),
+            b"goals" => Some(Call::Goals),
+            _ => None,
         }
-        if equals(name, b"order") {
-            return Named::Call(Call::Order);
-        }
-        if equals(name, b"trace") {
-            return Named::Call(Call::Trace);
-        }
-        if equals(name, b"replay") {
-            return Named::Call(Call::Replay);
-        }
-        if equals(name, b"search") {
-            return Named::Call(Call::Search);
-        }
-        if equals(name, b"join") {
-            return Named::Call(Call::Join);
-        }
-        if equals(name, b"display") {
-            return Named::Call(Call::Display);
-        }
-        if equals(name, b"listing") {
-            return Named::Call(Call::Listing);
-        }
-        if equals(name, b"goals") {
-            return Named::Call(Call::Goals);
-        }
-        Named::Nothing
     }
 
     // How many sizes the part in the trace's place begins with.
@@ -69,12 +46,12 @@ impl Call {
         }
     }
 
-    fn write_answer<'a>(
+    fn write_answer(
         self,
         rt: &impl Print,
-        shop: &'a [u16],
-        order: &'a [u16],
-        trace: &'a [u16],
+        shop: &[u16],
+        order: &[u16],
+        trace: &[u16],
         room: &mut [u16],
     ) {
         match self {
@@ -94,39 +71,32 @@ impl Call {
     pub fn run(self, rt: &impl Print, shop: &[u8], order: &[u8], trace: &[u8], room: &[u8]) {
         let mut words = [0u16; sheet::ROOM];
         let length = sheet::write(&mut words, sheet::SHOP, shop);
-        self.run_on_shop(rt, &words[0..length], order, trace, room);
+        self.run_on_shop(rt, &words[..length], order, trace, room);
     }
 
     fn run_on_shop(self, rt: &impl Print, shop: &[u16], order: &[u8], trace: &[u8], room: &[u8]) {
         let mut words = [0u16; sheet::ROOM];
         let length = sheet::write(&mut words, sheet::ORDER, order);
-        self.run_on_order(rt, shop, &words[0..length], trace, room);
+        self.run_on_order(rt, shop, &words[..length], trace, room);
     }
 
-    fn run_on_order<'a>(
-        self,
-        rt: &impl Print,
-        shop: &'a [u16],
-        order: &'a [u16],
-        trace: &[u8],
-        room: &[u8],
-    ) {
+    fn run_on_order(self, rt: &impl Print, shop: &[u16], order: &[u16], trace: &[u8], room: &[u8]) {
         let mut words = [0u16; sheet::ROOM];
         let length = sheet::write(&mut words, self.third_sizes(), trace);
-        self.run_on_trace(rt, shop, order, &words[0..length], room);
+        self.run_on_trace(rt, shop, order, &words[..length], room);
     }
 
-    fn run_on_trace<'a>(
+    fn run_on_trace(
         self,
         rt: &impl Print,
-        shop: &'a [u16],
-        order: &'a [u16],
-        trace: &'a [u16],
+        shop: &[u16],
+        order: &[u16],
+        trace: &[u16],
         room: &[u8],
     ) {
         let mut words = [0u16; room::MOST];
         room::fill(&mut words);
         let length = room::length_of(room);
-        self.write_answer(rt, shop, order, trace, &mut words[0..length]);
+        self.write_answer(rt, shop, order, trace, &mut words[..length]);
     }
 }

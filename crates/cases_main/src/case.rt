@@ -2,10 +2,9 @@
 ghost use Rattle.std.specs.Prelude.{◌≡◌, true, ◌↔◌, length, take};
 ghost use Rattle.cases_main.specs.Names.{with_word, relevance_word};
 
-use crate::call::{Call, Named};
-use crate::relevances::Answer;
+use crate::call::Call;
 use crate::sheet::is_plain;
-use crate::text::{begins, between, equals, find, rest};
+use crate::text::{between, find, rest};
 use crate::{line, relevances};
 use sheet_files::words::front;
 
@@ -13,7 +12,7 @@ use sheet_files::words::front;
 pub fn has_sheets(line: &[u8]) -> bool
     ensures { (result ≡ true) ↔ (take (length with_word) line.now ≡ with_word) }
 {
-    begins(line, b"with ")
+    line.starts_with(b"with ")
 }
 
 // What stands behind `with`.
@@ -23,28 +22,20 @@ fn sheets_of(with: &[u8]) -> &[u8] {
 
 // Whether the parts of a case, from the semicolon on, take the sheets of the last `with` line.
 fn is_same(parts: &[u8]) -> bool {
-    begins(parts, b"; same |")
+    parts.starts_with(b"; same |")
 }
 
 fn is_comment(line: &[u8]) -> bool {
-    if line.len() == 0 {
-        return true;
-    }
-    line[0] == b'#'
+    matches!(line, [] | [b'#', ..])
 }
 
 // Whether there are parts, with nothing but sheets, traces and bars in them. For `same` a `with` line must stand above.
 fn is_readable(with: &[u8], parts: &[u8]) -> bool {
-    if parts.len() == 0 {
-        return false;
-    }
     if is_same(parts) {
-        if with.len() == 0 {
-            return false;
-        }
-        return is_plain(rest(parts, find(parts, 0, b'|')));
+        !with.is_empty() && is_plain(rest(parts, find(parts, 0, b'|')))
+    } else {
+        !parts.is_empty() && is_plain(rest(parts, 1))
     }
-    is_plain(rest(parts, 1))
 }
 
 // The case on these sheets, whose trace and room stand behind a bar of its parts. Before the shop sheet stands one byte.
@@ -81,32 +72,29 @@ fn write_unreadable(rt: &impl Print, line: &[u8]) {
 fn asks_relevance(name: &[u8]) -> bool
     ensures { (result ≡ true) ↔ (name.now ≡ relevance_word) }
 {
-    equals(name, b"relevance")
+    matches!(name, b"relevance")
 }
 
 // A case of relevance, whose parts stand from the place `end` on.
 fn run_relevance(rt: &impl Print, line: &[u8], end: usize) {
-    let answer = relevances::answer_to(rest(line, end));
-    match answer {
-        Answer::Told(told) => {
-            line::text(rt, front(line, end));
-            relevances::write(rt, told);
-        }
-        Answer::Unreadable => write_unreadable(rt, line),
+    if let Some(told) = relevances::answer_to(rest(line, end)) {
+        line::text(rt, front(line, end));
+        relevances::write(rt, told);
+    } else {
+        write_unreadable(rt, line);
     }
 }
 
 // A case of a call, whose name ends at `colon` and whose parts stand from the place `end` on.
 fn run_call(rt: &impl Print, with: &[u8], line: &[u8], colon: usize, end: usize) {
     let parts = rest(line, end);
-    if is_readable(with, parts) {
-        if let Named::Call(call) = Call::named(front(line, colon)) {
+    match Call::named(front(line, colon)) {
+        Some(call) if is_readable(with, parts) => {
             line::text(rt, front(line, end));
             run_parts(rt, call, with, parts);
-            return;
         }
+        _ => write_unreadable(rt, line),
     }
-    write_unreadable(rt, line);
 }
 
 fn run_case(rt: &impl Print, with: &[u8], line: &[u8]) {
@@ -121,15 +109,11 @@ fn run_case(rt: &impl Print, with: &[u8], line: &[u8]) {
 
 // A line, after the last `with` line or none.
 pub fn run_line(rt: &impl Print, with: &[u8], line: &[u8]) {
-    if is_comment(line) {
-        return;
-    }
     if has_sheets(line) {
-        if is_plain(sheets_of(line)) {
-            return;
+        if !is_plain(sheets_of(line)) {
+            write_unreadable(rt, line);
         }
-        write_unreadable(rt, line);
-    } else {
+    } else if !is_comment(line) {
         run_case(rt, with, line);
     }
 }

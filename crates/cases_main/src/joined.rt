@@ -12,10 +12,10 @@ use sheet_rows::refusal::Refusal;
 // The sheet in a room's first words, and the words behind it.
 fn write_sheet(rt: &impl Print, room: &[u16]) {
     let sizes = OrderSizes::of(room);
-    let rows = sizes.rows as usize;
-    line::number(rt, sizes.atoms as u64);
-    line::number(rt, sizes.goals as u64);
-    line::number(rt, sizes.rows as u64);
+    let rows = usize::from(sizes.rows);
+    line::number(rt, u64::from(sizes.atoms));
+    line::number(rt, u64::from(sizes.goals));
+    line::number(rt, u64::from(sizes.rows));
     line::text(rt, b",");
     room::write_part(rt, room, Order::SIZES, rows);
     line::text(rt, b",");
@@ -23,11 +23,11 @@ fn write_sheet(rt: &impl Print, room: &[u16]) {
     room::write_rest(rt, room, Order::SIZES + 2 * rows);
 }
 
-fn write_answer(rt: &impl Print, answer: Refusal, room: &[u16]) {
+fn write_answer(rt: &impl Print, answer: Result<(), Refusal>, room: &[u16]) {
     line::text(rt, b":");
-    line::refusal(rt, answer);
+    line::answer(rt, answer);
     line::text(rt, b"; words");
-    if answer.number == 0 {
+    if answer.is_ok() {
         write_sheet(rt, room);
     } else {
         room::write_none(rt, true);
@@ -37,13 +37,7 @@ fn write_answer(rt: &impl Print, answer: Refusal, room: &[u16]) {
 }
 
 // The answer is written, and the room is left as the join leaves it.
-pub fn write<'a>(
-    rt: &impl Print,
-    shop: &'a [u16],
-    first: &'a [u16],
-    second: &'a [u16],
-    room: &mut [u16],
-)
+pub fn write(rt: &impl Print, shop: &[u16], first: &[u16], second: &[u16], room: &mut [u16])
     ensures { room.new ≡ (write_join shop.now first.now second.now room.old).room }
 {
     let answer = join(shop, first, second, room);

@@ -23,12 +23,20 @@ pub fn comma(rt: &impl Print, is_first: bool) {
 
 // The number and the place of a refusal.
 pub fn refusal(rt: &impl Print, refusal: Refusal) {
-    number(rt, refusal.number as u64);
-    number(rt, refusal.place as u64);
+    number(rt, u64::from(refusal.number()));
+    number(rt, u64::from(refusal.place));
+}
+
+// What a check answers: the number and the place of its refusal, 0 twice where it refuses nothing.
+pub fn answer(rt: &impl Print, answer: Result<(), Refusal>) {
+    match answer {
+        Ok(()) => text(rt, b" 0 0"),
+        Err(refused) => refusal(rt, refused),
+    }
 }
 
 // What a check answers, and the line's end.
-pub fn verdict(rt: &impl Print, answer: Refusal) {
-    refusal(rt, answer);
+pub fn verdict(rt: &impl Print, checked: Result<(), Refusal>) {
+    answer(rt, checked);
     text(rt, b"\n");
 }

@@ -22,73 +22,48 @@ mod stepping;
 mod text;
 
 use std::io::{ErrorKind, Input, Read};
-use text::{between, find};
 
-// The bytes of the longest input, of the newline before it, and one more.
-const MOST_BYTES: usize = 131072;
+// The bytes of the longest input, and one more.
+const MOST_BYTES: usize = 131071;
 
-// The line behind a newline.
-fn line_at(text: &[u8], newline: usize) -> &[u8] {
-    between(text, newline, find(text, newline, b'\n'))
-}
-
-// The lines of a text that begins with a newline.
 fn run_lines(rt: &impl Print, text: &[u8]) {
-    // The newline before the last `with` line; at first there is none.
-    let mut with = text.len();
-    let mut at = 0;
-    while at < text.len() {
-        let line = line_at(text, at);
+    // The last `with` line; at first there is none.
+    let mut with: &[u8] = &[];
+    for line in text.split(|&byte| byte == b'\n') {
         if case::has_sheets(line) {
-            with = at;
+            with = line;
         }
-        case::run_line(rt, line_at(text, with), line);
-        at = find(text, at, b'\n');
+        case::run_line(rt, with, line);
     }
 }
 
 // Reads until the room is full, the input ends or a read fails, and answers how many bytes came; a read that a signal interrupts is made again. A
-// proved loop has to end, so the turns are counted down from a number that no run uses up.
+// proved loop has to end, so the turns are bounded by a number that no run uses up.
 fn read_full<R: Read>(reader: &mut R, room: &mut [u8]) -> usize
     ensures { result ≤ length room.new }
 {
     let mut count = 0;
-    let mut turns = u64::MAX;
-    while turns > 0 {
-        turns -= 1;
+    for _ in 0..u64::MAX {
         if room.len() <= count {
-            return count;
+            break;
         }
         match reader.read(&mut room[count..]) {
-            Ok(more) => {
-                if more == 0 {
-                    return count;
-                }
-                count += more;
-            }
-            Err(error) => {
-                if error.kind() != ErrorKind::Interrupted {
-                    return count;
-                }
-            }
+            Ok(0) => break,
+            Ok(more) => count += more,
+            Err(error) if error.kind() == ErrorKind::Interrupted => {}
+            Err(_) => break,
         }
     }
     count
 }
 
-// Reads the input behind the newline before it, and runs its lines. What leaves no byte free may be the front of more: none of it is
-// run.
-fn run_input(rt: &(impl Input + Print), input: &mut [u8]) {
-    if 0 < input.len() {
-        let mut reader = rt.reader();
-        let count = read_full(&mut reader, &mut input[1..]);
-        if count < input.len() {
-            let end = count + 1;
-            if end < input.len() {
-                run_lines(rt, &input[0..end]);
-                return;
-            }
-        }
+// Reads the input, and runs its lines. What leaves no byte free may be the front of more: none of it is run.
+fn run_input(rt: &(impl Input + Print), room: &mut [u8]) {
+    let mut reader = rt.reader();
+    let count = read_full(&mut reader, room);
+    if count < room.len() {
+        run_lines(rt, &room[..count]);
+    } else {
         line::text(
             rt,
             b"too long: the input has more bytes than the case program takes\n",
@@ -96,8 +71,7 @@ fn run_input(rt: &(impl Input + Print), input: &mut [u8]) {
     }
 }
 
-// A newline stands first, so that the first line has one before it, as the others have.
 fn main(rt: HostRuntime) {
-    let mut input = [b'\n'; MOST_BYTES];
-    run_input(&rt, &mut input);
+    let mut room = [0; MOST_BYTES];
+    run_input(&rt, &mut room);
 }

@@ -6,13 +6,14 @@ ghost use Rattle.hgn.specs.Lists.{any};
 ghost use Rattle.hgn.specs.Rows.{rows_of};
 ghost use Rattle.hgn.specs.Meaning.{node_of};
 ghost use Rattle.hgn.specs.Relevance.{relevance};
+ghost use Rattle.sheet_index.specs.Index.{rows_in};
 ghost use Rattle.state.specs.Relevances.{relevance_of, effects_in};
 ghost use Rattle.cases_main.specs.Relevances.{most_words, pairs, is_wanted, tags_of, tag_of, ToldOf, AnsweredBy};
 
 use crate::sheet::is_plain;
 use crate::text::{between, find, rest};
 use crate::{line, sheet};
-use sheet_index::index::Part;
+use sheet_index::rows::Rows;
 use sheet_rows::tag;
 use state::literals::{Literal, LiteralTags};
 use state::relevance::{Relevance, relevance_to_node};
@@ -24,24 +25,15 @@ pub struct Told {
     signs: LiteralTags,
 }
 
-// What a case of relevance answers: what is told, or nothing where its parts are not two lists of rows.
-#[derive(Clone, Copy)]
-pub enum Answer {
-    Told(Told),
-    Unreadable,
-}
-
 // Writes the rows of words that are a tag and a value by turns into a room's first words, as a sheet has them: the tags, then the values.
 fn write_rows(room: &mut [u16], words: &[u16])
     requires { length words.now ≤ length room.old }
     ensures { rows_of 0 (length words.now / 2) room.new ≡ pairs words.now }
 {
     let rows = words.len() / 2;
-    let mut row = 0;
-    while row < rows {
+    for row in 0..rows {
         room[row] = words[2 * row];
         room[rows + row] = words[2 * row + 1];
-        row += 1;
     }
 }
 
@@ -49,13 +41,10 @@ fn write_rows(room: &mut [u16], words: &[u16])
 fn has_wanted(words: &[u16]) -> bool
     ensures { result ≡ any is_wanted (pairs words.now) }
 {
-    let rows = words.len() / 2;
-    let mut row = 0;
-    while row < rows {
-        if tag::one_of_2(words[2 * row], tag::WANTED_TRUE, tag::WANTED_FALSE) {
+    for row in 0..words.len() / 2 {
+        if matches!(words[2 * row], tag::WANTED_TRUE | tag::WANTED_FALSE) {
             return true;
         }
-        row += 1;
     }
     false
 }
@@ -66,14 +55,26 @@ fn signs_of(words: &[u16]) -> LiteralTags
     ensures { result ≡ tags_of (pairs words.now) }
 {
     if has_wanted(words) {
-        return LiteralTags {
+        LiteralTags {
             positive: tag::WANTED_TRUE,
             negative: tag::WANTED_FALSE,
-        };
+        }
+    } else {
+        LiteralTags {
+            positive: tag::MAKES_TRUE,
+            negative: tag::MAKES_FALSE,
+        }
     }
-    LiteralTags {
-        positive: tag::MAKES_TRUE,
-        negative: tag::MAKES_FALSE,
+}
+
+// The rows in a room's first words: so many tags, then as many values.
+fn laid_rows<'a>(room: &'a [u16], rows: usize) -> Rows<'a>
+    requires { rows + rows ≤ length room.now }
+    ensures { rows_in result ≡ rows_of 0 rows room.now }
+{
+    Rows {
+        tags: &room[0..rows],
+        values: &room[rows..rows + rows],
     }
 }
 
@@ -89,14 +90,7 @@ fn relevance_in(
     ensures { relevance_of result ≡ relevance (effects_in signs (rows_of 0 effects left.now))
         (flatten (node_of (rows_of 0 wanted right.now)).formula) }
 {
-    let part = Part {
-        tags: 0,
-        values: effects,
-        rows: effects,
-    };
-    let tags = &right[0..wanted];
-    let values = &right[wanted..wanted + wanted];
-    relevance_to_node(left, part, signs, tags, values)
+    relevance_to_node(laid_rows(left, effects), signs, laid_rows(right, wanted))
 }
 
 // What is told of effects and a goal, whose rows are given as words, a tag and a value by turns.
@@ -110,84 +104,69 @@ fn told_of(effects: &[u16], wanted: &[u16]) -> Told
     write_rows(&mut right, wanted);
     let signs = signs_of(effects);
     let relevance = relevance_in(&left, effects.len() / 2, signs, &right, wanted.len() / 2);
-    Told {
-        relevance: relevance,
-        signs: signs,
-    }
+    Told { relevance, signs }
 }
 
 // What a case answers, by the words of its two sides. A side with an odd number of words is unreadable, since its last tag has no value. One
 // that is longer than a room fills the room, whose number of words is odd, so that it is unreadable too.
-fn answer_on_words(effects: &[u16], wanted: &[u16]) -> Answer
+fn answer_on_words(effects: &[u16], wanted: &[u16]) -> Option<Told>
     requires { (length effects.now ≤ most_words) × (length wanted.now ≤ most_words) }
     ensures { AnsweredBy effects.now wanted.now result }
 {
-    if effects.len() % 2 != 0 {
-        return Answer::Unreadable;
+    if effects.len() % 2 == 0 && wanted.len() % 2 == 0 {
+        Some(told_of(effects, wanted))
+    } else {
+        None
     }
-    if wanted.len() % 2 != 0 {
-        return Answer::Unreadable;
-    }
-    Answer::Told(told_of(effects, wanted))
 }
 
 // The words of each side are made by a function of its own, as those of a call's sheets are.
-fn answer_on_effects(effects: &[u16], wanted: &[u8]) -> Answer
+fn answer_on_effects(effects: &[u16], wanted: &[u8]) -> Option<Told>
     requires { length effects.now ≤ most_words }
 {
     let mut words = [0u16; sheet::ROOM];
     let length = sheet::write(&mut words, sheet::ROWS, wanted);
-    answer_on_words(effects, &words[0..length])
+    answer_on_words(effects, &words[..length])
 }
 
-fn answer_on_sides(effects: &[u8], wanted: &[u8]) -> Answer {
+fn answer_on_sides(effects: &[u8], wanted: &[u8]) -> Option<Told> {
     let mut words = [0u16; sheet::ROOM];
     let length = sheet::write(&mut words, sheet::ROWS, effects);
-    answer_on_effects(&words[0..length], wanted)
+    answer_on_effects(&words[..length], wanted)
 }
 
 // What a case of relevance answers, by its parts from the semicolon on. They are rows, one bar, and rows.
-pub fn answer_to(parts: &[u8]) -> Answer {
+pub fn answer_to(parts: &[u8]) -> Option<Told> {
     let bar = find(parts, 0, b'|');
-    if parts.len() <= bar {
-        return Answer::Unreadable;
+    let has_one_bar = bar < parts.len() && parts.len() <= find(parts, bar, b'|');
+    if has_one_bar && is_plain(rest(parts, 1)) {
+        answer_on_sides(between(parts, 0, bar), rest(parts, bar + 1))
+    } else {
+        None
     }
-    if find(parts, bar, b'|') < parts.len() {
-        return Answer::Unreadable;
-    }
-    if !is_plain(rest(parts, 1)) {
-        return Answer::Unreadable;
-    }
-    answer_on_sides(between(parts, 0, bar), between(parts, bar, parts.len()))
 }
 
 // The tag that the row of an effect with this sign has.
 fn tag_of(signs: LiteralTags, sign: bool) -> u16
     ensures { result ≡ tag_of signs sign }
 {
-    if sign {
-        return signs.positive;
-    }
-    signs.negative
+    if sign { signs.positive } else { signs.negative }
 }
 
 fn write_effect(rt: &impl Print, signs: LiteralTags, effect: Literal) {
-    let atom = effect.atom;
-    line::number(rt, tag_of(signs, effect.sign) as u64);
-    line::number(rt, atom.0 as u64);
+    line::number(rt, u64::from(tag_of(signs, effect.sign)));
+    line::number(rt, u64::from(effect.atom.0));
 }
 
 pub fn write(rt: &impl Print, told: Told) {
-    let signs = told.signs;
-    let relevance = told.relevance;
-    match relevance {
+    match told.relevance {
         Relevance::Blocked(effect) => {
             line::text(rt, b": blocked");
-            write_effect(rt, signs, effect);
+            write_effect(rt, told.signs, effect);
         }
         Relevance::Helping(effect) => {
             line::text(rt, b": helping");
-            write_effect(rt, signs, effect);
+            write_effect(rt, told.signs, effect);
         }
         Relevance::Neither => line::text(rt, b": neither"),
     }

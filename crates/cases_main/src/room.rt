@@ -1,10 +1,9 @@
 // The room that a case lends: what its words hold before the call, and what is written of them after it.
-ghost use Rattle.std.specs.Prelude.{◌≡◌, ◌<◌, ◌≤◌, length};
+ghost use Rattle.std.specs.Prelude.{◌≡◌, ◌≤◌, length};
 ghost use Rattle.cases_main.specs.Rooms.{most_room, blank_at, Blank};
 
 use crate::{line, sheet};
 use sheet_check::check::Trace;
-use sheet_check::rows::word;
 
 // The words of a room where a case does not say: the plan of every trace fits.
 const USUAL: u16 = Trace::MOST_STEPS;
@@ -16,9 +15,9 @@ pub const MOST: usize = u16::MAX as usize;
 pub fn length_of(text: &[u8]) -> usize
     ensures { result ≤ most_room }
 {
-    let mut said = [USUAL; 1];
+    let mut said = [USUAL];
     sheet::write(&mut said, sheet::TRACE, text);
-    word(&said, 0) as usize
+    usize::from(said[0])
 }
 
 // What a room's word holds before the call. No move has such a number, and words near each other differ.
@@ -32,28 +31,14 @@ fn blank(at: usize) -> u16
 pub fn fill(room: &mut [u16])
     ensures { Blank (length room.old) room.new }
 {
-    let mut at = 0;
-    while at < room.len() {
-        room[at] = blank(at);
-        at += 1;
+    for (at, word) in room.iter_mut().enumerate() {
+        *word = blank(at);
     }
-}
-
-// The first word from `from` on that is not as before the call, or the room's length.
-fn changed(room: &[u16], from: usize) -> usize {
-    let mut at = from;
-    while at < room.len() {
-        if room[at] != blank(at) {
-            return at;
-        }
-        at += 1;
-    }
-    at
 }
 
 pub fn write_rest(rt: &impl Print, room: &[u16], from: usize) {
-    let at = changed(room, from);
-    if at < room.len() {
+    let mut words = room.iter().enumerate().skip(from);
+    if let Some((at, _)) = words.find(|&(at, &word)| word != blank(at)) {
         line::text(rt, b"; rest changed");
         line::number(rt, at as u64);
     } else {
@@ -61,52 +46,32 @@ pub fn write_rest(rt: &impl Print, room: &[u16], from: usize) {
     }
 }
 
-// Where the words that equal the one at `from` end.
-fn end_of_words(words: &[u16], from: usize) -> usize
-    ensures { from < length words.now → from < result }
-{
-    let mut at = from;
-    while at < words.len() {
-        at += 1;
-        if at < words.len() {
-            if words[at] != words[from] {
-                return at;
-            }
+// Words that are all equal, as the cases write them: the word, or `3(7)` where it stands several times.
+fn write_words(rt: &impl Print, words: &[u16]) {
+    match words {
+        [] => {}
+        [word] => line::number(rt, u64::from(*word)),
+        [word, ..] => {
+            line::number(rt, words.len() as u64);
+            line::text(rt, b"(");
+            line::digits(rt, u64::from(*word));
+            line::text(rt, b")");
         }
-    }
-    at
-}
-
-// A word several times, as the cases write it: `3(7)`.
-fn write_words(rt: &impl Print, value: u16, times: usize) {
-    if times == 1 {
-        line::number(rt, value as u64);
-    } else {
-        line::number(rt, times as u64);
-        line::text(rt, b"(");
-        line::digits(rt, value as u64);
-        line::text(rt, b")");
     }
 }
 
 pub fn write_list(rt: &impl Print, words: &[u16]) {
-    let mut at = 0;
-    while at < words.len() {
-        let end = end_of_words(words, at);
-        write_words(rt, words[at], end - at);
-        at = end;
+    for equal in words.chunk_by(|word, next| word == next) {
+        write_words(rt, equal);
     }
-    write_none(rt, words.len() == 0);
+    write_none(rt, words.is_empty());
 }
 
 // The words of a room from `from` on, so many, or none where it has fewer.
 fn part(room: &[u16], from: usize, length: usize) -> &[u16] {
-    if from <= room.len() {
-        if length <= room.len() - from {
-            return &room[from..from + length];
-        }
-    }
-    &room[0..0]
+    room.get(from..)
+        .and_then(|words| words.get(..length))
+        .unwrap_or(&[])
 }
 
 pub fn write_part(rt: &impl Print, room: &[u16], from: usize, length: usize) {

@@ -12,10 +12,10 @@ use sheet_rows::refusal::Refusal;
 
 // The trace of a length in a room's first words, and the words behind it.
 fn write_trace(rt: &impl Print, room: &[u16], length: u16) {
-    let count = length as usize;
+    let count = usize::from(length);
     line::text(rt, b"; length");
     let sizes = TraceSizes::of(room);
-    line::number(rt, sizes.steps as u64);
+    line::number(rt, u64::from(sizes.steps));
     line::text(rt, b"; moves");
     room::write_part(rt, room, Trace::SIZES, count);
     line::text(rt, b"; places");
@@ -23,27 +23,26 @@ fn write_trace(rt: &impl Print, room: &[u16], length: u16) {
     room::write_rest(rt, room, Trace::SIZES + 2 * count);
 }
 
-fn write_answer(rt: &impl Print, answer: Refusal, room: &[u16]) {
+fn write_answer(rt: &impl Print, answer: Result<u16, Refusal>, room: &[u16]) {
     line::text(rt, b":");
-    line::refusal(rt, answer);
-    if answer.number == 0 {
-        write_trace(rt, room, answer.place);
-    } else {
-        room::write_rest(rt, room, 0);
+    match answer {
+        Ok(length) => {
+            line::number(rt, 0);
+            line::number(rt, u64::from(length));
+            write_trace(rt, room, length);
+        }
+        Err(refusal) => {
+            line::refusal(rt, refusal);
+            room::write_rest(rt, room, 0);
+        }
     }
     line::text(rt, b"\n");
 }
 
 // The answer is written, and the room is left as the search leaves it. The first of the words is D.
-pub fn write<'a>(
-    rt: &impl Print,
-    shop: &'a [u16],
-    order: &'a [u16],
-    words: &[u16],
-    room: &mut [u16],
-)
+pub fn write(rt: &impl Print, shop: &[u16], order: &[u16], words: &[u16], room: &mut [u16])
     ensures { room.new ≡ (Search.search shop.now order.now (get_or words.now 0 0) room.old).room }
 {
-    let answer = search(shop, order, word(words, 0) as u32, room);
+    let answer = search(shop, order, u32::from(word(words, 0)), room);
     write_answer(rt, answer, room);
 }

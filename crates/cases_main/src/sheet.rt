@@ -24,12 +24,11 @@ pub const ROOM: usize = Shop::SIZES + 2 * (u16::MAX as usize) + 1;
 const MOST_BYTES: u32 = 10000000;
 
 // Where the reading of a text stands.
-#[derive(Clone, Copy)]
+#[derive(Drop)]
 struct Pen {
-    // The numbers so far, and the one that is being read.
+    // How many numbers are written, and the one that is being read, if one is.
     at: usize,
-    number: u16,
-    is_open: bool,
+    number: Option<u16>,
     // The next byte.
     next: usize,
     // What is repeated: its first byte, how often, and the turn.
@@ -40,120 +39,79 @@ struct Pen {
 
 // Where a text's number stands in the sheet: the sizes first, then each row's tag and value in their own array.
 fn place(room: &[u16], sizes: u16, at: usize) -> usize {
-    let first = sizes as usize;
-    if first < 1 {
+    let first = usize::from(sizes);
+    if first == 0 || at < first {
         return at;
     }
-    if at < first {
-        return at;
-    }
-    let rows = word(room, first - 1);
     let row = (at - first) / 2;
     if (at - first) % 2 == 0 {
-        return first + row;
+        first + row
+    } else {
+        first + usize::from(word(room, first - 1)) + row
     }
-    first + (rows as usize) + row
-}
-
-fn store(room: &mut [u16], to: usize, number: u16) {
-    if to < room.len() {
-        room[to] = number;
-    }
-}
-
-// A text's number. Answers which comes next.
-fn put(room: &mut [u16], sizes: u16, at: usize, number: u16) -> usize
-    requires { at ≤ length room.old }
-    ensures { result ≤ length room.new }
-{
-    if at < room.len() {
-        let to = place(room, sizes, at);
-        store(room, to, number);
-        return at + 1;
-    }
-    at
 }
 
 impl Pen {
-    fn written(self, room: &mut [u16], sizes: u16) -> Pen
-        requires { self.at ≤ length room.old }
-        ensures { result.at ≤ length room.new }
+    // The number that is being read, if one is, goes into the room, unless that is full.
+    fn end_number(&mut self, room: &mut [u16], sizes: u16)
+        requires { self.old.at ≤ length room.old }
+        ensures { self.new.at ≤ length room.new }
     {
-        let mut pen = self;
-        if pen.is_open {
-            pen.at = put(room, sizes, pen.at, pen.number);
-            pen.number = 0;
-            pen.is_open = false;
+        let Some(number) = self.number.take() else {
+            return;
+        };
+        if self.at < room.len() {
+            let to = place(room, sizes, self.at);
+            if let Some(word) = room.get_mut(to) {
+                *word = number;
+            }
+            self.at += 1;
         }
-        pen
     }
 
-    fn with_number(self, number: u16) -> Pen
-        ensures { result.at ≡ self.at }
+    fn add_digit(&mut self, digit: u8)
+        ensures { self.new.at ≡ self.old.at }
     {
-        let mut pen = self;
-        pen.number = number;
-        pen.is_open = true;
-        pen
-    }
-
-    fn with_digit(self, byte: u8) -> Pen
-        ensures { result.at ≡ self.at }
-    {
-        if byte < b'0' {
-            return self;
-        }
-        if b'9' < byte {
-            return self;
-        }
-        let longer = (self.number as u32) * 10 + (byte - b'0') as u32;
-        self.with_number((longer % 65536) as u16)
+        let before = self.number.unwrap_or(0);
+        self.number = Some(before.wrapping_mul(10).wrapping_add(u16::from(digit)));
     }
 
     // Behind an opening bracket; the number before it says how often.
-    fn opened(self) -> Pen
-        ensures { result.at ≡ self.at }
+    fn open(&mut self)
+        ensures { self.new.at ≡ self.old.at }
     {
-        let mut pen = self;
-        pen.times = pen.number;
-        pen.turn = 0;
-        pen.unit = pen.next;
-        pen.number = 0;
-        pen.is_open = false;
-        pen
+        self.times = self.number.take().unwrap_or(0);
+        self.turn = 0;
+        self.unit = self.next;
     }
 
     // Behind a closing bracket, and for the next turn at the opening one.
-    fn closed(self) -> Pen
-        ensures { result.at ≡ self.at }
+    fn close(&mut self)
+        ensures { self.new.at ≡ self.old.at }
     {
-        let mut pen = self;
-        if pen.turn < pen.times {
-            pen.turn = pen.turn + 1;
-            if pen.turn < pen.times {
-                pen.next = pen.unit;
+        if self.turn < self.times {
+            self.turn += 1;
+            if self.turn < self.times {
+                self.next = self.unit;
             }
         }
-        pen
     }
 
-    fn read(self, room: &mut [u16], sizes: u16, byte: u8) -> Pen
-        requires { self.at ≤ length room.old }
-        ensures { result.at ≤ length room.new }
+    fn read(&mut self, room: &mut [u16], sizes: u16, byte: u8)
+        requires { self.old.at ≤ length room.old }
+        ensures { self.new.at ≤ length room.new }
     {
-        if byte == b' ' {
-            return self.written(room, sizes);
+        match byte {
+            b' ' => self.end_number(room, sizes),
+            b'n' => self.number = Some(self.turn),
+            b'(' => self.open(),
+            b')' => {
+                self.end_number(room, sizes);
+                self.close();
+            }
+            b'0'..=b'9' => self.add_digit(byte - b'0'),
+            _ => {}
         }
-        if byte == b'n' {
-            return self.with_number(self.turn);
-        }
-        if byte == b'(' {
-            return self.opened();
-        }
-        if byte == b')' {
-            return self.written(room, sizes).closed();
-        }
-        self.with_digit(byte)
     }
 }
 
@@ -163,22 +121,19 @@ pub fn write(room: &mut [u16], sizes: u16, text: &[u8]) -> usize
 {
     let mut pen = Pen {
         at: 0,
-        number: 0,
-        is_open: false,
+        number: None,
         next: 0,
         unit: 0,
         times: 0,
         turn: 0,
     };
-    let mut left = MOST_BYTES;
-    while 0 < left {
-        left -= 1;
-        let at = pen.next;
-        if text.len() <= at {
-            return pen.written(room, sizes).at;
-        }
-        pen.next = at + 1;
-        pen = pen.read(room, sizes, text[at]);
+    for _ in 0..MOST_BYTES {
+        let Some(&byte) = text.get(pen.next) else {
+            pen.end_number(room, sizes);
+            break;
+        };
+        pen.next += 1;
+        pen.read(room, sizes, byte);
     }
     pen.at
 }
@@ -187,21 +142,11 @@ pub fn write(room: &mut [u16], sizes: u16, text: &[u8]) -> usize
 pub fn is_plain(text: &[u8]) -> bool
     ensures { result ≡ all plain_byte text.now }
 {
-    let mut at = 0;
-    while at < text.len() {
-        if !is_plain_byte(text[at]) {
-            return false;
-        }
-        at += 1;
-    }
-    true
+    text.iter().all(|&byte| is_plain_byte(byte))
 }
 
 fn is_plain_byte(byte: u8) -> bool
     ensures { result ≡ plain_byte byte }
 {
-    match byte {
-        b'0'..=b'9' | b' ' | b',' | b'(' | b')' | b'n' | b'|' => true,
-        _ => false,
-    }
+    matches!(byte, b'0'..=b'9' | b' ' | b',' | b'(' | b')' | b'n' | b'|')
 }

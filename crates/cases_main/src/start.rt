@@ -15,15 +15,12 @@ pub struct Start {
 }
 
 impl Start {
-    pub fn of<'a>(shop: &'a [u16], order: &'a [u16]) -> Start
+    pub fn of(shop: &[u16], order: &[u16]) -> Start
         requires { check_order shop.now order.now ≡ passed }
         ensures { Prepared shop.now order.now result.tables result.problem }
     {
         let mut tables = [0u16; Tables::WORDS];
         let problem = first::prepared(shop, order, &mut tables);
-        Start {
-            tables: tables,
-            problem: problem,
-        }
+        Start { tables, problem }
     }
 }

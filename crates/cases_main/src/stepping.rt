@@ -7,19 +7,18 @@ ghost use Rattle.std.specs.Int.{w16};
 ghost use Rattle.std.proofs.Common.{Fits};
 ghost use Rattle.hgn.specs.Order.{check_order};
 ghost use Rattle.hgn.specs.Questions.{passed};
-ghost use Rattle.network.specs.Goals.{Within};
+ghost use Rattle.step.specs.Failures.{told_of};
 ghost use Rattle.replay.specs.Running.{Prepared};
 ghost use Rattle.display.specs.Stepping.{next_number};
 
 use crate::start::Start;
 use crate::{line, sources};
 use display::forward;
-use network::goals;
 use network::waiting::Place;
 use sheet_check::check::{Trace, check_order};
 use sheet_check::rows::word;
 use sheet_check::sizes::TraceSizes;
-use state::atoms;
+use step::failure::Failure;
 use step::moves::Step;
 use step::problem::{Problem, Stepped};
 
@@ -30,41 +29,39 @@ pub enum View {
     Goals,
 }
 
-// An atom that a step names; the number that stands for none is not written.
-fn write_named(rt: &impl Print, atom: u16) {
-    if atom != atoms::NO_ATOM {
-        line::number(rt, atom as u64);
+fn write_shown(rt: &impl Print, shown: Stepped) {
+    let waits = u64::from(shown.problem.waiting.len());
+    match shown.answer {
+        Ok(()) => {
+            line::number(rt, 0);
+            line::number(rt, waits);
+        }
+        Err(failure) => {
+            line::number(rt, u64::from(failure.number()));
+            line::number(rt, waits);
+            if let Some(atom) = failure.atom {
+                line::number(rt, u64::from(atom.0));
+            }
+        }
     }
 }
 
-fn write_shown(rt: &impl Print, shown: Stepped) {
-    let failure = shown.failure;
-    let refusal = failure.refusal;
-    let problem = shown.problem;
-    let waiting = problem.waiting;
-    line::number(rt, refusal.number as u64);
-    line::number(rt, goals::count_of(&waiting) as u64);
-    write_named(rt, failure.atom);
-}
-
 fn write_refused(rt: &impl Print, shown: Stepped) {
-    let failure = shown.failure;
-    let refusal = failure.refusal;
-    if refusal.number != 0 {
+    if shown.answer.is_err() {
         write_shown(rt, shown);
         line::text(rt, b";");
     }
 }
 
 // Only a step that is taken is counted.
-fn next_number(number: u16, answer: u16) -> u16
+fn next_number(number: u16, answer: Result<(), Failure>) -> u16
     requires { Fits w16 (number + 1) }
-    ensures { (result ≡ next_number number answer) × (result ≤ number + 1) }
+    ensures { (result ≡ next_number number (told_of answer).refusal.number) × (result ≤ number + 1) }
 {
-    if answer == 0 {
-        return number + 1;
+    match answer {
+        Ok(()) => number + 1,
+        Err(_) => number,
     }
-    number
 }
 
 impl View {
@@ -79,23 +76,18 @@ impl View {
     }
 
     // What is written of the record after the last step.
-    fn write_last(self, rt: &impl Print, last: Problem)
-        requires { Within last.waiting }
-    {
+    fn write_last(self, rt: &impl Print, last: Problem) {
         match self {
             View::Steps => {}
-            View::Goals => {
-                let waiting = last.waiting;
-                sources::write(rt, &waiting);
-            }
+            View::Goals => sources::write(rt, &last.waiting),
         }
     }
 }
 
-fn write_steps<'a>(
+fn write_steps(
     rt: &impl Print,
-    shop: &'a [u16],
-    order: &'a [u16],
+    shop: &[u16],
+    order: &[u16],
     trace: &[u16],
     tables: &[u16],
     first: Problem,
@@ -103,44 +95,36 @@ fn write_steps<'a>(
 )
     requires { Prepared shop.now order.now tables.now first }
 {
-    let sizes = TraceSizes::of(trace);
-    let steps = sizes.steps as usize;
+    let steps = usize::from(TraceSizes::of(trace).steps);
     let mut problem = first;
     let mut number: u16 = 0;
-    let mut at: usize = 0;
-    while at < steps {
+    for at in 0..steps {
         let step = Step {
-            number: number,
+            number,
             mv: word(trace, Trace::SIZES + at),
             place: Place(word(trace, Trace::SIZES + steps + at)),
         };
         let shown = forward::show_step(problem, shop, order, tables, step);
         view.write_step(rt, at == 0, shown);
-        at += 1;
         problem = shown.problem;
-        let failure = shown.failure;
-        let refusal = failure.refusal;
-        number = next_number(number, refusal.number);
+        number = next_number(number, shown.answer);
     }
     view.write_last(rt, problem);
     line::text(rt, b"\n");
 }
 
-fn write_checked<'a>(rt: &impl Print, shop: &'a [u16], order: &'a [u16], trace: &[u16], view: View)
+fn write_checked(rt: &impl Print, shop: &[u16], order: &[u16], trace: &[u16], view: View)
     requires { check_order shop.now order.now ≡ passed }
 {
     let start = Start::of(shop, order);
-    let tables = start.tables;
-    write_steps(rt, shop, order, trace, &tables, start.problem, view);
+    write_steps(rt, shop, order, trace, &start.tables, start.problem, view);
 }
 
 // The steps of a list, as a trace has them, on sheets that pass; else what their check answers.
-pub fn write<'a>(rt: &impl Print, shop: &'a [u16], order: &'a [u16], trace: &[u16], view: View) {
+pub fn write(rt: &impl Print, shop: &[u16], order: &[u16], trace: &[u16], view: View) {
     line::text(rt, b":");
-    let verdict = check_order(shop, order);
-    if verdict.number == 0 {
-        write_checked(rt, shop, order, trace, view);
-    } else {
-        line::verdict(rt, verdict);
+    match check_order(shop, order) {
+        Ok(()) => write_checked(rt, shop, order, trace, view),
+        Err(refusal) => line::verdict(rt, Err(refusal)),
     }
 }

@@ -1,12 +1,10 @@
--- What is ahead of the row is accepted (`Ahead`). Assumes nothing.
-use Prim.Native.Nat.{◌-◌}
-use lib.ListN.{length}
-use Rattle.hgn.specs.Trace.{steps_of}
+-- The reader holds the trace, and what is ahead of its row is accepted (`Ahead`). Assumes nothing.
+use mathlib.Core.Path.{◌≡◌}
 use Rattle.cases_main.proofs.Accepted.{Ahead}
 use Rattle.cases_main.proofs.listed.write_lines.Given as goal
 
-abbrev pub invariant-loop-mv : goal.invariant-loop-mv
-invariant-loop-mv g l = Ahead l.shop l.order l.trace l.at.0 l.atoms l.waiting
-
-abbrev pub decreases-loop-mv : goal.decreases-loop-mv
-decreases-loop-mv g l = length (steps_of l.trace) - l.at.0
+abbrev pub invariant-loop-step : goal.invariant-loop-step
+invariant-loop-step g l =
+    (goal.iterator-loop-step g).can_next l.step-iterator × (goal.iterator-loop-step g).is_finite l.step-iterator
+    × (l.step-iterator.trace.now ≡ l.trace)
+    × Ahead l.shop l.order l.trace l.step-iterator.row.0 l.problem.atoms l.problem.waiting

@@ -1,5 +1,4 @@
 -- A row that is wanted stands among those from each row that is reached on where it stands among all. Assumes nothing.
-use Prim.Native.Nat.{◌-◌}
 use mathlib.Core.Path.{◌≡◌}
 use lib.ListN.{drop}
 use Rattle.hgn.specs.Lists.{any}
@@ -8,6 +7,3 @@ use Rattle.cases_main.proofs.relevances.has_wanted.Given as goal
 
 abbrev pub invariant-loop-row : goal.invariant-loop-row
 invariant-loop-row l = any is_wanted (drop l.row (pairs l.words)) ≡ any is_wanted (pairs l.words)
-
-abbrev pub decreases-loop-row : goal.decreases-loop-row
-decreases-loop-row l = l.rows - l.row

@@ -8,4 +8,4 @@ use Rattle.cases_main.proofs.searched.write.Goals as goal
 pub returns : goal.returns
 returns g c = let args = c.args in
     ap (λ (r : Search.Searched). r.room) c.search-answer.ensures
-    ∙ ap {B = List ℕ} (λ (depth : ℕ). (Search.search args.shop.now args.order.now depth args.room.now).room) c.word.ensures
+    ∙ ap {B = List ℕ} (λ (depth : ℕ). (Search.search args.shop.now args.order.now depth args.room.now).room) (c.from.ensures ∙ c.word.ensures)

@@ -1,17 +1,12 @@
--- The facts that the loop leaves. Assumes nothing.
-use native.Mathlib.Omega.{arith}
-use mathlib.Core.Path.{refl}
-use Rattle.cases_main.proofs.Plains.{not_plain, plain_on, all_plain}
+-- Each byte passes the test, or one does not. Assumes nothing.
+use Rattle.std.proofs.Common.{◌∙◌, rules}
+use Rattle.std.proofs.lemmas.Iterator.{YieldsList-from_slice}
+use Rattle.std.proofs.lemmas.Iterator.Search.{all_from_yields_List}
+use Rattle.cases_main.specs.Plain.{plain_byte}
+use Rattle.cases_main.proofs.Plains.{all_listed}
 use Rattle.cases_main.proofs.sheet.is_plain.Goals as goal
 
-pub loop-at-init : goal.loop-at-init
-loop-at-init c = refl
-
-pub returns-then-not-is_plain_byte : goal.returns-then-not-is_plain_byte
-returns-then-not-is_plain_byte c = not_plain _ _ c.loop-at.invariant (omega arith) c.is_plain_byte.ensures c.if-not-is_plain_byte.true
-
-pub loop-at-preserved : goal.loop-at-preserved
-loop-at-preserved c = plain_on _ _ c.loop-at.invariant (omega arith) c.is_plain_byte.ensures c.if-not-is_plain_byte.false
-
 pub returns : goal.returns
-returns c = all_plain _ _ c.loop-at.invariant c.loop-at-test.false
+returns c =
+    all_from_yields_List plain_byte _ _ _ c.all.ensures.ran (YieldsList-from_slice c.args.text.now (search rules)) (λ x b q k. search rules)
+    ∙ all_listed c.args.text.now

@@ -1,10 +1,12 @@
--- The answer 0 is tested as the definition tests it. Assumes nothing.
+-- The answer is told as 0 where it is a step taken, as another number where not. Assumes nothing.
 use native.Mathlib.Omega.{arith}
-use borrow.Author.Tests.{eq-eqb, ne_eqb}
+use mathlib.Core.Path.{refl}
+use borrow.Author.Tests.{ne_eqb}
+use Rattle.cases_main.proofs.Accepted.{refused_number}
 use Rattle.cases_main.proofs.stepping.next_number.Goals as goal
 
-pub returns-then-answer-eq0 : goal.returns-then-answer-eq0
-returns-then-answer-eq0 c = (rw (eq-eqb _ 0 c.if-answer-eq0.true), omega arith)
+pub returns-in-Ok : goal.returns-in-Ok
+returns-in-Ok c = (rw c.in-Ok.is refl, omega arith)
 
-pub returns : goal.returns
-returns c = (rw (ne_eqb _ 0 c.if-answer-eq0.false), omega arith)
+pub returns-in-Err : goal.returns-in-Err
+returns-in-Err c = (rw (ne_eqb _ 0 (refused_number c.in-Err.is)) refl, omega arith)

@@ -1,5 +1,5 @@
--- `stepping::write_steps` is safe and ends: the steps that were taken have led to the record, and no more are counted than there are. Assumes nothing.
-use Prim.Native.Nat.{◌-◌, ◌≤◌}
+-- `stepping::write_steps` is safe: the steps that were taken have led to the record, and no more are counted than there are. Assumes nothing.
+use Prim.Native.Nat.{◌≤◌}
 use mir.Syntax.{w16}
 use mir.Val.{Fits}
 use Rattle.step.specs.Taking.{Going}
@@ -7,7 +7,4 @@ use Rattle.cases_main.proofs.stepping.write_steps.Given as goal
 
 abbrev pub invariant-loop-at : goal.invariant-loop-at
 invariant-loop-at g l =
-    Going l.shop l.order l.number l.problem.atoms l.problem.waiting × (l.number ≤ l.at) × (l.at ≤ l.steps) × Fits w16 l.steps
-
-abbrev pub decreases-loop-at : goal.decreases-loop-at
-decreases-loop-at g l = l.steps - l.at
+    Going l.shop l.order l.number l.problem.atoms l.problem.waiting × (l.number ≤ l.at) × Fits w16 l.steps

@@ -1,20 +1,19 @@
--- The facts that the loop leaves. Assumes nothing.
-use mathlib.Core.Path.{sym}
-use native.Mathlib.Omega.{arith}
-use Rattle.cases_main.proofs.Texts.{begun, sought_here, sought_on, sought_end}
+-- The first byte behind the place that is the one looked for, if there is one. Assumes nothing.
+use Prim.Native.Nat.{ℕ, ◌+◌, ◌-◌}
+use mathlib.Core.Path.{◌≡◌, ap, ◌∙◌}
+use mathlib.Core.List.{List}
+use lib.Dec.{eqb}
+use lib.ListN.{length, take, drop}
+use Rattle.std.proofs.Common.{rules}
+use Rattle.hgn.specs.Lists.{take_until}
+use Rattle.cases_main.proofs.Texts.{whole_rest, first_at}
 use Rattle.cases_main.proofs.text.find.Goals as goal
 
-pub loop-at-init : goal.loop-at-init
-loop-at-init c = begun _ _ _
-
-pub returns-then-text-at : goal.returns-then-text-at
-returns-then-text-at c = sought_here _ _ _ _ c.loop-at.invariant (omega arith) (omega arith) c.if-text-at.true
-
-pub loop-at-preserved-else-text-at : goal.loop-at-preserved-else-text-at
-loop-at-preserved-else-text-at c = sought_on _ _ _ _ c.loop-at.invariant (omega arith) (omega arith) c.if-text-at.false
-
-pub loop-at-preserved : goal.loop-at-preserved
-loop-at-preserved c = sought_end _ _ _ _ c.loop-at.invariant (omega arith) (omega arith)
-
 pub returns : goal.returns
-returns c h = sym (c.loop-at.invariant.past h (omega arith))
+returns c h =
+    let from : ℕ = c.args.from + 1 in
+    let text : List ℕ = c.args.text.now in
+    let byte : ℕ = c.args.byte in
+    let found : c.unwrap_or.result ≡ length (take_until (eqb byte) (take (length text - from) (drop from text))) =
+    first_at byte (take (length text - from) (drop from text)) c.unwrap_or.result (search rules) (search rules) (search rules) in
+    ap (λ (n : ℕ). from + n) (found ∙ ap {A = List ℕ} (λ l. length (take_until (eqb byte) l)) (whole_rest text from))
