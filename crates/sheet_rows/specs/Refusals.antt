@@ -1,5 +1,5 @@
 -- The code's questions, refusals and answers, and an answer with a lent room at exit, as the definitions have them. Document 01, "Questions".
-use Rattle.std.specs.Prelude.{ℕ, Result, Ok, Err}
+use Rattle.std.specs.Prelude.{ℕ, ◌≡◌, ◌≢◌, Option, Some, None, Result, Ok, Err}
 use Rattle.hgn.specs.Questions as Questions
 use Rattle.hgn.specs.Questions.{no_refusal, placed}
 use Rattle.hgn.specs.Lent.{Lent}
@@ -44,6 +44,11 @@ number_of Question.NoTrace = 43
 number_of Question.TooManyGoals = 81
 number_of Question.TooManyRows = 82
 number_of Question.JoinRoom = 83
+
+-- The question of a number; none where no question has it.
+abbrev pub IsQuestionOf : ℕ → Option Question → Type 0
+IsQuestionOf n (Some q) = number_of q ≡ n
+IsQuestionOf n None = (q : Question) → number_of q ≢ n
 
 abbrev pub refusal_of : Refusal → Questions.Refusal
 refusal_of r = record { number = number_of r.question; place = r.place }

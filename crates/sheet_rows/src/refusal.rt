@@ -1,7 +1,7 @@
 // What a check, a step and a call tell where a question is answered no. Document 01, "Questions".
 ghost use Rattle.std.specs.Prelude.{◌≡◌, false};
 ghost use Rattle.hgn.specs.Questions.{◌asks◌, placed};
-ghost use Rattle.sheet_rows.specs.Refusals.{number_of, refusal_of};
+ghost use Rattle.sheet_rows.specs.Refusals.{number_of, IsQuestionOf, refusal_of};
 
 // The questions, each by what is wrong where it is answered no. Each stands for its number, as `docs/REFUSALS.md` lists them.
 #[derive(Clone, Copy, PartialEq, Eq, Debug)]
@@ -52,6 +52,51 @@ pub enum Question {
 }
 
 impl Question {
+    // The question of a number; none where no question has it.
+    pub fn of(number: u16) -> Option<Question>
+        ensures { IsQuestionOf number result }
+    {
+        match number {
+            1 => Some(Question::ShopTooShort),
+            2 => Some(Question::ShopSizes),
+            3 => Some(Question::ShopLength),
+            4 => Some(Question::ShopTag),
+            5 => Some(Question::ShopValue),
+            6 => Some(Question::ShopNotRising),
+            7 => Some(Question::ShopEnd),
+            8 => Some(Question::ShopCounts),
+            9 => Some(Question::MethodNodes),
+            11 => Some(Question::OrderTooShort),
+            12 => Some(Question::OrderSizes),
+            13 => Some(Question::OrderLength),
+            14 => Some(Question::OrderTag),
+            15 => Some(Question::OrderValue),
+            16 => Some(Question::OrderNotRising),
+            17 => Some(Question::OrderEnd),
+            18 => Some(Question::OrderCounts),
+            21 => Some(Question::TraceTooShort),
+            22 => Some(Question::TraceSteps),
+            23 => Some(Question::TraceLength),
+            24 => Some(Question::PlanRoom),
+            25 => Some(Question::NoGoalThere),
+            26 => Some(Question::UnknownMove),
+            27 => Some(Question::NothingFree),
+            28 => Some(Question::GoalNotFree),
+            29 => Some(Question::GoalUnmet),
+            30 => Some(Question::NeedsUnmet),
+            31 => Some(Question::Irrelevant),
+            32 => Some(Question::TooManyWaiting),
+            33 => Some(Question::GoalsLeft),
+            41 => Some(Question::DepthTooLarge),
+            42 => Some(Question::SearchRoom),
+            43 => Some(Question::NoTrace),
+            81 => Some(Question::TooManyGoals),
+            82 => Some(Question::TooManyRows),
+            83 => Some(Question::JoinRoom),
+            _ => None,
+        }
+    }
+
     // The number that is told of it.
     pub fn number(self) -> u16
         ensures { result ≡ number_of self }

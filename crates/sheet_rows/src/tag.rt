@@ -1,5 +1,6 @@
 // The twelve tags by name. Document 01, "The three sheets".
-ghost use Rattle.std.specs.Prelude.{◌≡◌};
+ghost use Rattle.std.specs.Prelude.{◌≡◌, [], ◌∷◌};
+ghost use Rattle.hgn.specs.Lists.{elem};
 ghost use Rattle.hgn.specs.Tag.{begins};
 
 pub const ACTION: u16 = 1;
@@ -25,6 +26,28 @@ pub const WANTED_FALSE: u16 = 10;
 pub const AFTER: u16 = 11;
 
 pub const TRUE_AT_START: u16 = 12;
+
+// The tag is one of these.
+#[tactic(auto, using(std::proofs::lemmas::Bool::Decides::nat_tests), unfolding(hgn::specs::Lists::elem, hgn::specs::Lists::any))]
+pub fn one_of_2(tag: u16, a: u16, b: u16) -> bool
+    ensures { result ≡ elem tag (a ∷ b ∷ []) }
+{
+    tag == a || tag == b
+}
+
+#[tactic(auto, using(std::proofs::lemmas::Bool::Decides::nat_tests), unfolding(hgn::specs::Lists::elem, hgn::specs::Lists::any))]
+pub fn one_of_3(tag: u16, a: u16, b: u16, c: u16) -> bool
+    ensures { result ≡ elem tag (a ∷ b ∷ c ∷ []) }
+{
+    tag == a || tag == b || tag == c
+}
+
+#[tactic(auto, using(std::proofs::lemmas::Bool::Decides::nat_tests), unfolding(hgn::specs::Lists::elem, hgn::specs::Lists::any))]
+pub fn one_of_4(tag: u16, a: u16, b: u16, c: u16, d: u16) -> bool
+    ensures { result ≡ elem tag (a ∷ b ∷ c ∷ d ∷ []) }
+{
+    tag == a || tag == b || tag == c || tag == d
+}
 
 // A row with this tag begins an action, a method, a node or an alternative.
 #[tactic(auto, using(std::proofs::lemmas::Bool::Decides::nat_tests), unfolding(hgn::specs::Tag::begins, hgn::specs::Lists::elem, hgn::specs::Lists::any))]
