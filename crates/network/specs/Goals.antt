@@ -36,6 +36,10 @@ entry_in g p = (at_place g p).goal
 abbrev pub pending_in : Goals → ℕ → ℕ
 pending_in g p = (at_place g p).pending
 
+-- The goals that wait, each with its count.
+abbrev pub waiting_in : Goals → List Waiting
+waiting_in g = take g.count g.entries
+
 abbrev pub goals_in : Goals → List Entry
 goals_in g = map (λ w. w.goal) (take g.count g.entries)
 
@@ -45,6 +49,14 @@ list_in shop order g = map (waiting_of shop order) (goals_in g)
 -- The counts of every place; those behind the last goal may be anything.
 abbrev pub counts_in : Goals → List ℕ
 counts_in g = map (λ w. w.pending) g.entries
+
+-- A goal with its count is written at place `p`; every other place is as it was, and so is how many wait.
+pub record Put (p : ℕ) (e : Entry) (pending : ℕ) (g g' : Goals) : Type 0 where
+  pub waiting : count_in g' ≡ count_in g
+  pub entry : entry_in g' p ≡ e
+  pub count : pending_in g' p ≡ pending
+  pub before : (k : ℕ) → k < p → at_place g' k ≡ at_place g k
+  pub behind : (k : ℕ) → p < k → at_place g' k ≡ at_place g k
 
 -- The goal at place `p` has left the list, and the counts are right again.
 pub record Left (shop order : List ℕ) (p : ℕ) (g g' : Goals) : Type 0 where

@@ -29,20 +29,21 @@ impl Goals {
     ghost use Rattle.hgn.specs.Order.{check_order};
     ghost use Rattle.hgn.specs.Questions.{passed};
     ghost use Rattle.sheet_index.specs.Tables.{Indexed, Bounds, Walk};
-    ghost use Rattle.network.specs.Goals.{count_in, at_place, entry_in, pending_in, list_in, counts_in, Left, Decomposed, Begun};
+    ghost use Rattle.network.specs.Goals.{count_in, at_place, entry_in, pending_in, list_in, counts_in, waiting_in, Put, Left, Decomposed, Begun};
     ghost use Rattle.network.specs.Pending.{PendingCounts};
     ghost use Rattle.network.specs.Reaching.{ListReached};
 
     // The most goals that may wait.
     pub const MOST: u16 = 64;
 
+    // What stands behind the goals that wait is all zeros, the first sheet's number too, so that the compiler clears the array at once.
     pub fn empty() -> Goals
         ensures { count_in result ≡ 0 }
     {
         let nothing = Waiting {
             goal: Entry {
                 rows: Span {
-                    sheet: Sheet::Order,
+                    sheet: Sheet::Shop,
                     from: Row(0),
                     to: Row(0),
                 },
@@ -56,6 +57,21 @@ impl Goals {
             count: 0,
             entries: [nothing; Goals::MOST as usize],
         }
+    }
+
+    // These goals wait, in this order; none where they are more than may.
+    pub fn of(waiting: &[Waiting]) -> Option<Goals>
+        ensures { MatchOption result (most_waiting < length waiting.now) (λ g. waiting_in g ≡ waiting.now) }
+    {
+        if waiting.len() > Goals::MOST as usize {
+            return None;
+        }
+        let mut entries = Goals::empty().entries;
+        entries[..waiting.len()].copy_from_slice(waiting);
+        Some(Goals {
+            count: waiting.len() as u16,
+            entries,
+        })
     }
 
     // How many goals wait.
@@ -89,6 +105,14 @@ impl Goals {
             return Some(self.entries[place.0 as usize]);
         }
         None
+    }
+
+    // A goal with its count is written at a place. How many goals wait stays as it was.
+    pub fn put(&mut self, place: Place, goal: Entry, pending: u16)
+        requires { place.0 < most_waiting }
+        ensures { Put place.0 goal pending self.old self.new }
+    {
+        self.entries[place.0 as usize] = Waiting { goal, pending };
     }
 
     // Some waiting goal is free.
