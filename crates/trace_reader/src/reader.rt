@@ -43,6 +43,35 @@ impl<'a> Reader<'a> {
     {
         Reader { trace, row: Row(0) }
     }
+
+    // One row on, in the same trace, behind its end too, where `next` stays.
+    pub fn advance(&mut self)
+        requires { self.old.row.0 + 1 < 2 ^ 16 }
+        ensures { (self.new.trace ≡ self.old.trace) × (self.new.row.0 ≡ self.old.row.0 + 1) }
+    {
+        self.row = Row(self.row.0 + 1);
+    }
+}
+
+// A row of a trace that was read, and the row behind it.
+#[derive(Clone, Copy)]
+pub struct Onward {
+    pub step: Option<Step>,
+    pub row: Row,
+}
+
+// What stands at a row of a trace, and the row behind it, for callers that hold no reader.
+pub fn next(trace: &[u16], at: Row) -> Onward
+    requires { at.0 + 1 < 2 ^ 16 }
+    ensures { (step_of result.step ≡ row_at trace.now at.0) × (result.row.0 ≡ at.0 + 1) }
+{
+    let mut reader = Reader { trace, row: at };
+    let step = step_at(reader.trace, reader.row);
+    reader.advance();
+    Onward {
+        step,
+        row: reader.row,
+    }
 }
 
 // Each step of the trace from the row that is reached on.
