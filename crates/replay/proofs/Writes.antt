@@ -73,6 +73,9 @@ module _ (actions : ℕ) (moves before : List ℕ) where
       → written < length room
   writing_fits {room} {written} {i} w h f = omega (arith, w.few, w.number, ap length w.holds, length-append w.done (drop written before), length-drop written before)
 
+  pub writing_length : {room : List ℕ} {written i : ℕ} → Writing actions moves before room written i → length moves ≤ length before → length room ≡ length before
+  writing_length {room} {written} w f = omega (arith, w.few, w.inside, w.number, ap length w.holds, length-append w.done (drop written before), length-drop written before)
+
   pub writing_all : {room : List ℕ} {written i : ℕ} → Writing actions moves before room written i → length moves ≤ i
       → room ≡ action_moves actions moves ++ drop (length (action_moves actions moves)) before
   unfolding action_moves
