@@ -68,7 +68,8 @@ fn search_indexed(shop: &[u16], order: &[u16], depth: u16, tables: &mut [u16]) -
     let mut goals = Goals::empty();
     first::begun(shop, order, tables, &mut goals);
     let atoms = first::start(shop, order);
-    let table = Table::of(shop, order, tables);
+    let mut table = Table::empty();
+    table.fill(shop, order, tables);
     let given = Given {
         shop,
         order,

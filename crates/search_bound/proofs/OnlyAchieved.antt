@@ -27,7 +27,7 @@ use Rattle.search_bound.specs.declared.achievers.Achievers.{Achievers}
 use Rattle.search_bound.specs.declared.achievers.Achievers.TheVariants.{None, Only, Many}
 use Rattle.search_bound.specs.Tables.{entries, index_of, entry_at, Achieved, OnlyAchievers, with_achiever, noted}
 
-index_fits : (l : Literal) → l.atom < most_atoms → index_of l < entries
+pub index_fits : (l : Literal) → l.atom < most_atoms → index_of l < entries
 index_fits l h = go l.sign
   where
     go : (b : Bool) → 2 * l.atom + cond b 1 0 < entries

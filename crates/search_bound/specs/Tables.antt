@@ -1,6 +1,6 @@
 -- The table of only achievers, and what is known of an operator or an action that is asked about. No reader needs to trust this page: a
 -- statement of `search_theory` says what the bound is for.
-use Rattle.std.specs.Prelude.{ℕ, suc, ◌+◌, ◌*◌, ◌≤◌, ◌<◌, Bool, cond, List, [], ◌∷◌, ltb, length, get_or, set}
+use Rattle.std.specs.Prelude.{ℕ, suc, ◌+◌, ◌*◌, ◌≤◌, ◌<◌, ◌≡◌, Bool, cond, List, [], ◌∷◌, ltb, length, get_or, set}
 use Rattle.hgn.specs.Tag as Tag
 use Rattle.hgn.specs.Meaning.{Literal, Domain, literals, node_of}
 use Rattle.hgn.specs.State.{most_atoms, relevant}
@@ -30,6 +30,10 @@ abbrev pub Achieved : Domain → Literal → Achievers → Type 0
 Achieved d l Entry.None = OnlyAchiever d l 0
 Achieved d l (Entry.Only o) = o < length d.actions → OnlyAchiever d l (suc o)
 Achieved d l Entry.Many = Unit {0}
+
+-- No entry names an action.
+abbrev pub AchievesNone : Table → Type 0
+AchievesNone table = (l : Literal) → l.atom < most_atoms → entry_at table.entries l ≡ Entry.None
 
 abbrev pub OnlyAchievers : Domain → Table → Type 0
 OnlyAchievers d table = (l : Literal) → l.atom < most_atoms → Achieved d l (entry_at table.entries l)

@@ -8,7 +8,7 @@ ghost use Rattle.hgn.specs.Shop.{domain};
 ghost use Rattle.sheet_index.specs.Index.{rows_in};
 ghost use Rattle.sheet_index.specs.Tables.{Indexed};
 ghost use Rattle.state.specs.Literals.{literal_of};
-ghost use Rattle.search_bound.specs.Tables.{entries, index_of, entry_at, OnlyAchievers, noted};
+ghost use Rattle.search_bound.specs.Tables.{entries, index_of, entry_at, AchievesNone, OnlyAchievers, noted};
 
 use sheet_check::check::Shop;
 use sheet_check::sizes::ShopSizes;
@@ -25,7 +25,7 @@ pub enum Achievers {
 }
 
 // Which actions achieve each literal. An atom has two entries, one for each sign.
-#[derive(Drop)]
+#[derive(Clone, Copy)]
 pub struct Table {
     entries: [Achievers; Table::ENTRIES],
 }
@@ -41,17 +41,34 @@ fn index_of(literal: Literal) -> usize
 impl Table {
     const ENTRIES: usize = 2 * Shop::MOST_ATOMS as usize;
 
+    // The table of a sheet without actions.
+    #[inline(always)]
+    pub fn empty() -> Table
+        ensures { AchievesNone result }
+    {
+        Table {
+            entries: [Achievers::None; Self::ENTRIES],
+        }
+    }
+
+    // The table becomes that of a shop sheet, where it stands: one that is handed back is copied.
+    pub fn fill(&mut self, shop: &[u16], order: &[u16], tables: &[u16])
+        requires { Indexed shop.now order.now tables.now }
+        ensures { OnlyAchievers (domain shop.now) self.new }
+    {
+        self.entries = [Achievers::None; Self::ENTRIES];
+        for operator in 0..ShopSizes::of(shop).actions {
+            self.note_effects(operators::action_part(shop, tables, operator + 1), operator);
+        }
+    }
+
     // The table of a shop sheet.
     pub fn of(shop: &[u16], order: &[u16], tables: &[u16]) -> Table
         requires { Indexed shop.now order.now tables.now }
         ensures { OnlyAchievers (domain shop.now) result }
     {
-        let mut table = Table {
-            entries: [Achievers::None; Self::ENTRIES],
-        };
-        for operator in 0..ShopSizes::of(shop).actions {
-            table.note_effects(operators::action_part(shop, tables, operator + 1), operator);
-        }
+        let mut table = Table::empty();
+        table.fill(shop, order, tables);
         table
     }
 

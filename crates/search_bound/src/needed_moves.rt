@@ -7,7 +7,7 @@ ghost use Rattle.search_bound.specs.NeededMoves.{most_needed, Holds, WithOperato
 
 use sheet_check::check::Shop;
 
-#[derive(Drop)]
+#[derive(Clone, Copy)]
 pub struct NeededMoves {
     // How many operators are gathered, and the steps that they take together.
     count: u16,

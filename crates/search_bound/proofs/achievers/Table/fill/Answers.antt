@@ -1,7 +1,7 @@
 -- The facts that the loop leaves. Assumes nothing.
 use native.Mathlib.Omega.{arith}
 use Rattle.search_bound.proofs.OnlyAchieved.{achievers_next, achievers_all}
-use Rattle.search_bound.proofs.achievers.Table.of.Goals as goal
+use Rattle.search_bound.proofs.achievers.Table.fill.Goals as goal
 
 pub loop-operator-preserved : goal.loop-operator-preserved
 loop-operator-preserved c =
