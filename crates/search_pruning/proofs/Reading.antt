@@ -5,7 +5,7 @@ use mathlib.Core.Path.{◌≡◌, refl, subst}
 use mathlib.Core.Bool.{Bool, true, false, cond, ◌&&◌, ◌||◌}
 use mathlib.Core.List.{List}
 use lib.Dec.{eqb, ltb}
-use borrow.Author.Tests.{le-ltb, ltb-true, eqb-true}
+use borrow.Author.Tests.{lt-ltb, le-ltb, ltb-true, eqb-true}
 use Rattle.hgn.specs.Run as Run
 use Rattle.hgn.specs.Run.{move_of}
 use Rattle.hgn.specs.Shop.{domain, action_count, method_count}
@@ -34,7 +34,7 @@ lower_first : (actions methods : ℕ) (x y : Move) → Known actions methods x �
 unfolding is_action
 lower_first actions methods Release y h k = and_no (ltb 0 (move_number y))
 lower_first actions methods (Act i) Release h k = rw (le-ltb i 0 (omega arith))
-lower_first actions methods (Act i) (Act j) h k = and_yes (ltb i j)
+lower_first actions methods (Act i) (Act j) h k = rw (lt-ltb 0 i (omega arith)) (and_yes (ltb i j))
 lower_first actions methods (Act i) (Use j) h k = and_no (ltb i (Run.first_method + j))
 lower_first actions methods (Use i) y h k = and_no (ltb (Run.first_method + i) (move_number y))
 

@@ -20,9 +20,9 @@ move_number Release = 0
 move_number (Act k) = k
 move_number (Use m) = first_method + m
 
--- Both moves are actions, and the first has the lower number.
+-- Both moves are actions, and the first has the lower number. No action has the number 0.
 abbrev pub lower_action : Move → Move → Bool
-lower_action (Act j) (Act k) = ltb j k
+lower_action (Act j) (Act k) = ltb 0 j && ltb j k
 lower_action (Act j) Release = false
 lower_action (Act j) (Use m) = false
 lower_action Release y = false

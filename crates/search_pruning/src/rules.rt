@@ -158,7 +158,7 @@ fn is_earlier(last: Choice, choice: Choice) -> bool
         return choice.place.0 < last.place.0;
     }
     match (choice.mv, last.mv) {
-        (Move::Act(action), Move::Act(last_action)) => action < last_action,
+        (Move::Act(action), Move::Act(last_action)) => 0 < action && action < last_action,
         _ => false,
     }
 }
@@ -205,7 +205,9 @@ fn commute(
     }
 }
 
-// Both moves ask nothing that fails where this one is taken before the last, and they leave the same state.
+// Both moves ask nothing that fails where this one is taken before the last, and they leave the same state. It is compiled apart: its copies of the
+// state would else stand on the stack of each level of a search.
+#[inline(never)]
 fn swap_ready(
     shop: &[u16],
     order: &[u16],
