@@ -20,9 +20,13 @@ use Rattle.search.specs.declared.explore.Node.{Node}
 use Rattle.search.specs.declared.lent.Given.{Given}
 use Rattle.search.specs.declared.lent.Moment.{Moment}
 
+-- A moment, as a problem of the definitions.
+abbrev pub problem_of : List ℕ → List ℕ → Moment → Problem
+problem_of shop order m = problem_with shop order m.atoms.now m.goals.now
+
 -- What is lent at a moment, as a problem of the definitions.
 abbrev pub problem_at : Given → Moment → Problem
-problem_at given m = problem_with given.shop.now given.order.now m.atoms.now m.goals.now
+problem_at given m = problem_of given.shop.now given.order.now m
 
 -- Where a search of so many steps begins: a release at place 0 stands for the step before it.
 abbrev pub first_node : ℕ → Node

@@ -104,7 +104,7 @@ fn moves(
         let mv = moves::nth(i, sizes.actions);
         let choice = Choice { mv, place };
         if trial::can_tell(exhausted, node.left - 1, count, mv)
-            && trial::is_open(given, here, before, node.last, choice)
+            && trial::is_open(given.shop, given.order, given.tables, here, before, node.last, choice)
         {
             match follow(given, here, Node { exhausted, ..node }, choice) {
                 Ok(steps) => return Ok(steps),

@@ -9,7 +9,7 @@ ghost use Rattle.step.specs.Moves.{Known, known_of};
 ghost use Rattle.step.specs.Deciding.{Answers};
 ghost use Rattle.step.specs.Taking.{ValidGoals};
 ghost use Rattle.search_pruning.specs.Tests.{crowded, step_of};
-ghost use Rattle.search.specs.Trials.{problem_at, MayTake, Opens, Suffices};
+ghost use Rattle.search.specs.Trials.{problem_of, problem_at, MayTake, Opens, Suffices};
 
 use crate::explore::Node;
 use crate::found::Exhausted;
@@ -51,10 +51,17 @@ fn ask_move(
 }
 
 // No question of the move's own is answered no at a free goal, and it is no action that leaves the state as it is.
-fn may_take(given: &Given<'_>, here: Moment<'_>, choice: Choice) -> bool
-    requires inside { (choice.place.0 < count_in here.goals.now) × Known (action_count given.now.shop.now) (method_count given.now.shop.now) choice.mv }
-    requires place_value { free (problem_at given.now here).waiting (goal_at (problem_at given.now here).waiting choice.place.0) ≡ true }
-    ensures { MayTake given.now.shop.now (problem_at given.now here.entry) choice result }
+fn may_take(
+    shop: &[u16],
+    order: &[u16],
+    tables: &[u16],
+    here: Moment<'_>,
+    choice: Choice,
+) -> bool
+    requires indexed { Indexed shop.now order.now tables.now }
+    requires inside { (choice.place.0 < count_in here.goals.now) × Known (action_count shop.now) (method_count shop.now) choice.mv }
+    requires place_value { free (problem_of shop.now order.now here).waiting (goal_at (problem_of shop.now order.now here).waiting choice.place.0) ≡ true }
+    ensures { MayTake shop.now (problem_of shop.now order.now here.entry) choice result }
 {
     let load = Load {
         count: here.goals.len(),
@@ -62,45 +69,41 @@ fn may_take(given: &Given<'_>, here: Moment<'_>, choice: Choice) -> bool
     };
     let goal = here.goals.entry_at(choice.place);
     ask_move(
-        given.shop,
-        given.order,
-        given.tables,
-        here.atoms,
-        choice.mv,
-        goal.rows,
-        load,
+        shop, order, tables, here.atoms, choice.mv, goal.rows, load,
     )
     .is_ok()
-        && !rules::has_no_effect(given.shop, given.order, given.tables, here.atoms, choice.mv)
+        && !rules::has_no_effect(shop, order, tables, here.atoms, choice.mv)
 }
 
 // A step at a free goal is open: it may be taken, and however many steps are left no reason leaves it out. The last step was taken at
 // the moment `before`.
 pub fn is_open(
-    given: &Given<'_>,
+    shop: &[u16],
+    order: &[u16],
+    tables: &[u16],
     here: Moment<'_>,
     before: Moment<'_>,
     last: Choice,
     choice: Choice,
 ) -> bool
-    requires valid_goals { ValidGoals given.now.shop.now given.now.order.now here.goals.now × (choice.place.0 < count_in here.goals.now) }
-    requires valid_before { ValidGoals given.now.shop.now given.now.order.now before.goals.now × (last.place.0 < count_in before.goals.now) }
-    requires known { Known (action_count given.now.shop.now) (method_count given.now.shop.now) last.mv
-        × Known (action_count given.now.shop.now) (method_count given.now.shop.now) choice.mv }
-    requires place_value { free (problem_at given.now here).waiting (goal_at (problem_at given.now here).waiting choice.place.0) ≡ true }
-    ensures { Opens given.now.shop.now (problem_at given.now before.entry) (step_of last) (problem_at given.now here.entry) choice result }
+    requires indexed { Indexed shop.now order.now tables.now }
+    requires valid_goals { ValidGoals shop.now order.now here.goals.now × (choice.place.0 < count_in here.goals.now) }
+    requires valid_before { ValidGoals shop.now order.now before.goals.now × (last.place.0 < count_in before.goals.now) }
+    requires known { Known (action_count shop.now) (method_count shop.now) last.mv × Known (action_count shop.now) (method_count shop.now) choice.mv }
+    requires place_value { free (problem_of shop.now order.now here).waiting (goal_at (problem_of shop.now order.now here).waiting choice.place.0) ≡ true }
+    ensures { Opens shop.now (problem_of shop.now order.now before.entry) (step_of last) (problem_of shop.now order.now here.entry) choice result }
 {
-    may_take(given, here, choice)
+    may_take(shop, order, tables, here, choice)
         && !rules::commutes_with_last(
-            given.shop,
-            given.order,
-            given.tables,
+            shop,
+            order,
+            tables,
             before.atoms,
             before.goals,
             last,
             choice,
         )
-        && !rules::lower_too(given.shop, given.order, given.tables, here.goals, choice)
+        && !rules::lower_too(shop, order, tables, here.goals, choice)
 }
 
 // A move can tell something new: no more goals wait after it than steps are left, or no branch ran out of steps before.

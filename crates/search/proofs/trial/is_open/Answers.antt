@@ -12,7 +12,7 @@ returns-then-not-commutes_with_last c =
     let a = c.args in
     elim c.if-may_take.branch [
       | then-may_take w ↦
-          open_if a.given.now.lent.indexed _ _ _ a.choice c.requires.known.1 w.if-may_take.ensures
+          open_if c.requires.indexed _ _ _ a.choice c.requires.known.1 w.if-may_take.ensures
           (told w.commutes_with_last.ensures (not_so _ (sym w.value-is ∙ c.if-not-commutes_with_last.true))) c.lower_too.result c.lower_too.ensures
       | else-may_take w ↦ absurd (false_not_true _ w.if-may_take.false (sym w.value-is ∙ c.if-not-commutes_with_last.true))
     ]
@@ -22,10 +22,10 @@ returns-else-not-commutes_with_last c =
     let a = c.args in
     elim c.if-may_take.branch [
       | then-may_take w ↦
-          closed_if a.given.now.lent.indexed _ _ _ a.choice c.requires.known.1 c.if-not-commutes_with_last.false
-          (closed_first a.given.now.lent.indexed _ _ _ a.choice c.requires.known.1
+          closed_if c.requires.indexed _ _ _ a.choice c.requires.known.1 c.if-not-commutes_with_last.false
+          (closed_first c.requires.indexed _ _ _ a.choice c.requires.known.1
           (told w.commutes_with_last.ensures (so _ (sym w.value-is ∙ c.if-not-commutes_with_last.false))))
       | else-may_take w ↦
-          closed_if a.given.now.lent.indexed _ _ _ a.choice c.requires.known.1 c.if-not-commutes_with_last.false
-          (closed_untaken a.given.now.lent.indexed _ _ _ a.choice c.requires.known.1 w.if-may_take.ensures)
+          closed_if c.requires.indexed _ _ _ a.choice c.requires.known.1 c.if-not-commutes_with_last.false
+          (closed_untaken c.requires.indexed _ _ _ a.choice c.requires.known.1 w.if-may_take.ensures)
     ]
