@@ -1,16 +1,24 @@
--- Each atom gives its byte. Assumes nothing.
-use Rattle.std.proofs.Common.{ℕ, ◌<◌, ◌≡◌, rules, get_or, false, arith, length, sym, ◌∙◌}
-use Rattle.std.proofs.lemmas.List.{ext_get_or, length-map}
-use mir.Val.{bool_byte}
-use Rattle.capi.specs.Words.{state_bytes, atom_byte}
-use Rattle.capi.proofs.Bytes.{byte_at}
+-- The facts that the loop leaves. Assumes nothing.
+use Prim.Native.Nat.{ℕ}
+use native.Mathlib.Omega.{arith}
+use mathlib.Core.Path.{◌≡◌, refl}
+use lib.ListN.{replicate, length, length-replicate}
+use borrow.Author.Rules.{rules}
+use Rattle.hgn.specs.State.{most_atoms}
+use Rattle.capi.proofs.Bytes.{byte_more, bytes_whole}
 use Rattle.capi.proofs.bytes_of.Goals as goal
 
+pub loop-i-init : goal.loop-i-init
+loop-i-init c = (omega arith, refl)
+
+pub loop-i-preserved : goal.loop-i-preserved
+loop-i-preserved c = let l = c.loop-i in
+    let whole : length c.args.atoms ≡ most_atoms = search rules in
+    let zeros = length-replicate {A = ℕ} most_atoms 0 in
+    (omega arith, rw c.from.ensures (byte_more c.args.atoms (replicate most_atoms 0) l.i l.invariant.1 (omega arith) (omega arith)))
+
 pub returns : goal.returns
-returns c =
-    let m = c.map.ensures.items in
-    ext_get_or 0 _ (state_bytes c.args.atoms) (omega (arith, m.long, length-map c.args.atoms atom_byte))
-    (λ (i : ℕ) (h : i < length c.map.result).
-    let w = m.at i false 0 (omega (arith, m.long)) in
-    let call = w.2 in
-    let is : get_or c.map.result i 0 ≡ bool_byte (get_or c.args.atoms i false) = search rules in is ∙ sym (byte_at c.args.atoms i))
+returns c = let l = c.loop-i in
+    let whole : length c.args.atoms ≡ most_atoms = search rules in
+    let end : l.i ≡ most_atoms = omega arith in
+    bytes_whole c.args.atoms (replicate most_atoms 0) most_atoms (rw end at l.invariant.1) whole (length-replicate {A = ℕ} most_atoms 0)
