@@ -107,8 +107,14 @@ fn display_words(
 pub fn display(rt: &(impl Print + Eprint), shop: &[u8], order: &[u8], trace: &[u8]) -> Option<usize>
     ensures { Writes 0 (shown_text (shop_words shop.now) (order_words order.now) (trace_words trace.now)) result }
 {
-    let shop = ShopWords::of(shop);
-    let order = OrderWords::of(order);
-    let trace = TraceWords::of(trace);
-    display_words(rt, shop.words(), order.words(), trace.words())
+    let mut shop_words = ShopWords::new();
+    let mut order_words = OrderWords::new();
+    let mut trace_words = TraceWords::new();
+    shop_words.read(shop);
+    order_words.read(order);
+    trace_words.read(trace);
+    let shop = shop_words.words();
+    let order = order_words.words();
+    let trace = trace_words.words();
+    display_words(rt, shop, order, trace)
 }

@@ -25,10 +25,16 @@ pub const FILE_BYTES: usize = 2 * ROOM_WORDS;
 fn join_bytes(shop: &[u8], first: &[u8], second: &[u8], room: &mut [u16]) -> Result<(), Refusal>
     ensures { lent_of result room.new ≡ write_join (shop_words shop.now) (order_words first.now) (order_words second.now) room.old }
 {
-    let shop = ShopWords::of(shop);
-    let first = OrderWords::of(first);
-    let second = OrderWords::of(second);
-    join(shop.words(), first.words(), second.words(), room)
+    let mut shop_words = ShopWords::new();
+    let mut first_words = OrderWords::new();
+    let mut second_words = OrderWords::new();
+    shop_words.read(shop);
+    first_words.read(first);
+    second_words.read(second);
+    let shop = shop_words.words();
+    let first = first_words.words();
+    let second = second_words.words();
+    join(shop, first, second, room)
 }
 
 // The bytes of the order sheet that stands first in a join's room, in the first bytes of another.

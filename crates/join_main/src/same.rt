@@ -8,7 +8,9 @@ use sheet_files::words::ShopWords;
 pub fn same_shops(shop: &[u8], other: &[u8]) -> bool
     ensures { (result ≡ true) ↔ (shop_words shop.now ≡ shop_words other.now) }
 {
-    let shop = ShopWords::of(shop);
-    let other = ShopWords::of(other);
-    shop.words() == other.words()
+    let mut shop_words = ShopWords::new();
+    let mut other_words = ShopWords::new();
+    shop_words.read(shop);
+    other_words.read(other);
+    shop_words.words() == other_words.words()
 }

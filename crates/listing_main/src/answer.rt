@@ -91,8 +91,14 @@ fn list_words(rt: &(impl Print + Eprint), shop: &[u16], order: &[u16], trace: &[
 pub fn list(rt: &(impl Print + Eprint), shop: &[u8], order: &[u8], trace: &[u8]) -> Printed
     ensures { Prints (shop_words shop.now) (order_words order.now) (trace_words trace.now) result }
 {
-    let shop = ShopWords::of(shop);
-    let order = OrderWords::of(order);
-    let trace = TraceWords::of(trace);
-    list_words(rt, shop.words(), order.words(), trace.words())
+    let mut shop_words = ShopWords::new();
+    let mut order_words = OrderWords::new();
+    let mut trace_words = TraceWords::new();
+    shop_words.read(shop);
+    order_words.read(order);
+    trace_words.read(trace);
+    let shop = shop_words.words();
+    let order = order_words.words();
+    let trace = trace_words.words();
+    list_words(rt, shop, order, trace)
 }

@@ -28,10 +28,16 @@ fn replay_bytes(
 ) -> Result<Accepted, Failure>
     ensures { replayed_of result plan.new ≡ Replay.replay (shop_words shop.now) (order_words order.now) (trace_words trace.now) plan.old }
 {
-    let shop = ShopWords::of(shop);
-    let order = OrderWords::of(order);
-    let trace = TraceWords::of(trace);
-    replay(shop.words(), order.words(), trace.words(), plan)
+    let mut shop_words = ShopWords::new();
+    let mut order_words = OrderWords::new();
+    let mut trace_words = TraceWords::new();
+    shop_words.read(shop);
+    order_words.read(order);
+    trace_words.read(trace);
+    let shop = shop_words.words();
+    let order = order_words.words();
+    let trace = trace_words.words();
+    replay(shop, order, trace, plan)
 }
 
 // A line for each action of the plan, behind the first bytes of the text. Answers how many bytes there are now.

@@ -23,9 +23,11 @@ pub const FILE_BYTES: usize = 2 * ROOM_WORDS;
 fn search_bytes(shop: &[u8], order: &[u8], depth: u32, room: &mut [u16]) -> Result<u16, Refusal>
     ensures { searched_of result room.new ≡ Search.search (shop_words shop.now) (order_words order.now) depth room.old }
 {
-    let shop = ShopWords::of(shop);
-    let order = OrderWords::of(order);
-    search(shop.words(), order.words(), depth, room)
+    let mut shop_words = ShopWords::new();
+    let mut order_words = OrderWords::new();
+    shop_words.read(shop);
+    order_words.read(order);
+    search(shop_words.words(), order_words.words(), depth, room)
 }
 
 // The bytes of the trace that stands first in a search's room, with so many steps, in the first bytes of another.

@@ -1,5 +1,5 @@
 // Words of bytes, and bytes of words. Document 01, "One core of sixty centimetres".
-ghost use Rattle.std.specs.Prelude.{◌≡◌, ℕ, ◌*◌, ◌≤◌, List, length, take};
+ghost use Rattle.std.specs.Prelude.{◌≡◌, ℕ, ◌*◌, ◌≤◌, List, [], length, take};
 ghost use Rattle.sheet_files.specs.Words.{words_read, bytes_of, Filled};
 
 use crate::file::{ORDER_WORDS, SHOP_WORDS, TRACE_WORDS};
@@ -29,17 +29,36 @@ pub type OrderWords = SheetWords<ORDER_WORDS>;
 pub type TraceWords = SheetWords<TRACE_WORDS>;
 
 impl<const MOST: usize> SheetWords<MOST> {
-    // The words of the first bytes, so many or all. An odd last byte is no word.
+    // No words.
+    #[inline(always)]
+    pub fn new() -> Self
+        ensures { result ≡ [] }
+    {
+        SheetWords {
+            room: [0; MOST],
+            count: 0,
+        }
+    }
+
+    // The words of the first bytes, so many or all, in place of the words so far. An odd last byte is no word.
+    pub fn read(&mut self, bytes: &[u8])
+        ensures { self.new ≡ words_read (2 * MOST) bytes.now }
+    {
+        let count = MOST.min(bytes.len() / 2);
+        // Read by index: after `room.iter_mut().zip(bytes.chunks_exact(2))` no clause of std says what was written.
+        for (i, word) in self.room[..count].iter_mut().enumerate() {
+            *word = u16::from_le_bytes([bytes[2 * i], bytes[2 * i + 1]]);
+        }
+        self.count = count;
+    }
+
+    // The same as a new value, which costs the caller a copy.
     pub fn of(bytes: &[u8]) -> Self
         ensures { result ≡ words_read (2 * MOST) bytes.now }
     {
-        let mut room = [0u16; MOST];
-        let count = MOST.min(bytes.len() / 2);
-        // Read by index: after `room.iter_mut().zip(bytes.chunks_exact(2))` no clause of std says what was written.
-        for (i, word) in room[..count].iter_mut().enumerate() {
-            *word = u16::from_le_bytes([bytes[2 * i], bytes[2 * i + 1]]);
-        }
-        SheetWords { room, count }
+        let mut words = Self::new();
+        words.read(bytes);
+        words
     }
 
     pub fn words(&self) -> &[u16]

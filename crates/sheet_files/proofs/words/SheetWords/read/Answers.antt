@@ -2,7 +2,7 @@
 use Rattle.std.proofs.Common.{ℕ, arith}
 use Rattle.std.proofs.lemmas.List.{length-take, length-replicate}
 use Rattle.sheet_files.proofs.ByIndex.{words_more, words_whole}
-use Rattle.sheet_files.proofs.words.SheetWords.of.Goals as goal
+use Rattle.sheet_files.proofs.words.SheetWords.read.Goals as goal
 
 pub loop-i-preserved : goal.loop-i-preserved
 loop-i-preserved g c =
