@@ -2,22 +2,17 @@
 use Prim.Native.Nat.{ℕ, ◌+◌, ◌≤◌}
 use native.Mathlib.Omega.{arith}
 use mathlib.Core.Path.{◌≡◌, refl, sym, ap, subst, ◌∙◌}
-use mathlib.Core.Logic.{◌⊎◌}
 use mathlib.Core.List.{List, [], ◌++◌}
 use mathlib.Core.Option.{some, none}
 use lib.ListN.{length, take}
-use Rattle.std.specs.Prelude.{Option}
+use Rattle.std.specs.Prelude.{Some}
 use Rattle.hgn.specs.State.{State}
-use Rattle.hgn.specs.Run.{Step}
 use Rattle.network.specs.declared.goals.Goals.{Goals}
+use Rattle.step.specs.declared.moves.Step.{Step}
 use Rattle.step.specs.declared.problem.Problem.{Problem}
-use Rattle.trace_reader.specs.TraceRows.{row_at}
-use Rattle.listing.specs.Lines.{lines_told, Narrow, StepTold}
-use Rattle.listing.specs.declared.line.Line.{Line}
-use Rattle.listing_main.specs.Pieces.{piece_text, piece_bytes, Ahead}
-use Rattle.listing_main.specs.Turns.{Turns, last_turn, next_turn, Beginning}
-use Rattle.listing_main.proofs.Ahead.{told_narrow}
-use Rattle.listing_main.proofs.TurnLaws.{turn_step}
+use Rattle.trace_reader.specs.TraceRows.{row_at, step_of}
+use Rattle.listing_main.specs.Pieces.{piece_bytes, Ahead}
+use Rattle.listing_main.specs.Turns.{Turning, TurnOf, Turned, Turns, last_turn, next_turn, Beginning}
 
 abbrev problem : State → Goals → Problem
 problem s ws = record { atoms = s; waiting = ws }
@@ -47,25 +42,24 @@ module _ {shop sheet trace : List ℕ} {s₀ : State} {ws₀ : Goals} {room₀ :
     over past = a.on (take end room) (last_turn (ap (λ (t : List ℕ). row_at t k) (sym same) ∙ past))
 
     -- A step stands there, with the row for its number.
-    module _ {x : Step} (found : row_at held k ≡ some x) {n : ℕ} (numbered : n ≡ k) where
-      reads : row_at trace k ≡ some x
-      reads = ap (λ (t : List ℕ). row_at t k) (sym same) ∙ found
+    module _ {step : Step} (found : row_at held k ≡ some (record { move = step.mv; place = step.place.0 })) (numbered : step.number ≡ k) where
+      reads : step_of (Some step) ≡ row_at trace step.number
+      reads = sym (ap (λ (t : List ℕ). row_at t step.number) (sym same) ∙ ap (row_at held) numbered ∙ found)
 
-      module _ {told : Option Line} {s' : State} {ws' : Goals} (tells : StepTold shop sheet n x s ws told s' ws') where
-        tells_here : StepTold shop sheet k x s ws told s' ws'
-        tells_here = subst (λ (m : ℕ). StepTold shop sheet m x s ws told s' ws') numbered tells
+      ahead_here : Ahead shop sheet trace step.number (problem s ws)
+      ahead_here = rw numbered a.ahead
 
-        pub narrow : Narrow (lines_told told)
-        narrow = told_narrow shop sheet trace a.ahead x reads told s' ws' tells_here
+      pub turning : piece_bytes ≤ length room₀ → Turning shop sheet (record { step = step; end = end }) (problem s ws) room
+      turning roomy = record { trace = trace; ahead = ahead_here; reads = reads; fits = a.fits; roomy = omega (arith, roomy, a.same) }
 
-        pub turned : {at : ℕ} → (at + piece_bytes ≤ length room) × ((at ≡ end) ⊎ (at ≡ 0)) → {room' : List ℕ} {new k' : ℕ}
-            → length room' ≡ length room → new ≤ at + piece_bytes → take new room' ≡ take at room ++ piece_text told → k' ≡ k + 1
-            → Reached shop sheet trace s₀ ws₀ room₀ k' new s' ws' room'
-        turned {at} space {room'} {new} {k'} long put text on =
-            let t = turn_step shop sheet trace end room a.ahead x reads told s' ws' tells_here at space.0 space.1 room' new long put text in
-            rw on (record {
-              same = long ∙ a.same;
-              fits = t.fits;
-              ahead = t.ahead;
-              on = λ whole rest. a.on (t.out ++ whole) (next_turn t rest);
-            })
+      pub turned : {b : Problem} {room' : List ℕ} {new k' : ℕ}
+          → Turned shop sheet (record { step = step; end = end }) (problem s ws) room b room' (Some new) → length room' ≡ length room → k' ≡ k + 1
+          → Reached shop sheet trace s₀ ws₀ room₀ k' new b.atoms b.waiting room'
+      turned {b} {room'} {new} turn long on =
+          let t = subst (λ (m : ℕ). TurnOf shop sheet trace m (problem s ws) b end room new room') numbered (turn trace ahead_here reads) in
+          rw on (record {
+            same = long ∙ a.same;
+            fits = t.fits;
+            ahead = t.ahead;
+            on = λ whole rest. a.on (t.out ++ whole) (next_turn t rest);
+          })

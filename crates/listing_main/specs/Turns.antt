@@ -6,14 +6,23 @@ use Rattle.hgn.specs.State.{State}
 use Rattle.network.specs.declared.goals.Goals.{Goals}
 use Rattle.step.specs.declared.problem.Problem.{Problem}
 use Rattle.replay.specs.Running.{Prepared}
-use Rattle.trace_reader.specs.TraceRows.{row_at}
+use Rattle.trace_reader.specs.TraceRows.{row_at, step_of}
 use Rattle.listing_main.specs.Listed.{listing, number_to}
 use Rattle.listing_main.specs.Pieces.{piece_bytes, text_ahead, Ahead}
+use Rattle.listing_main.specs.declared.steps.Reached.{Reached}
 
 -- A largest piece fits behind what a room of this size holds, or at its start.
 abbrev pub Spaced : ℕ → ℕ → Option ℕ → Type 0
 Spaced size end (Some at) = (at + piece_bytes ≤ size) × ((at ≡ end) ⊎ (at ≡ 0))
 Spaced size end None = Unit {0}
+
+-- What a turn asks: some accepted trace has the step at the row of its number, and the room takes a largest piece.
+pub record Turning (shop sheet : List ℕ) (at : Reached) (b : Problem) (room : List ℕ) : Type 0 where
+  pub trace : List ℕ
+  pub ahead : Ahead shop sheet trace at.step.number b
+  pub reads : step_of (Some at.step) ≡ row_at trace at.step.number
+  pub fits : at.end ≤ length room
+  pub roomy : piece_bytes ≤ length room
 
 -- The turn of row `k`, at which a step stands. It writes out nothing, or all that the room held. That, what the room holds now and the text ahead of
 -- the next row are what the room held and the text ahead of row `k`.
@@ -23,6 +32,13 @@ pub record TurnOf (shop sheet trace : List ℕ) (k : ℕ) (b b' : Problem) (end 
   pub all_or_none : (out ≡ []) ⊎ (out ≡ take end room)
   pub ahead : Ahead shop sheet trace (k + 1) b'
   pub text : out ++ (take end' room' ++ text_ahead shop sheet trace (k + 1) b') ≡ take end room ++ text_ahead shop sheet trace k b
+
+-- So it is of every trace that has the step at the row. Where what the room held could not be written out, record and room are as they were.
+abbrev pub Turned : List ℕ → List ℕ → Reached → Problem → List ℕ → Problem → List ℕ → Option ℕ → Type 0
+Turned shop sheet at b room b' room' (Some end) = (trace : List ℕ) → Ahead shop sheet trace at.step.number b
+    → step_of (Some at.step) ≡ row_at trace at.step.number
+    → TurnOf shop sheet trace at.step.number b b' at.end room end room'
+Turned shop sheet at b room b' room' None = (b' ≡ b) × (room' ≡ room)
 
 -- Turns, each from the row, the record and the room that the one before it left, up to the trace's end; and what they write out, one behind the other.
 -- At the trace's end no further step is read, and all that the room holds is written out.

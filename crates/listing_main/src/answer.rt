@@ -60,8 +60,8 @@ fn write_tree(
     ensures { WritesAll shop.now order.now trace.now result }
 {
     let mut tables = [0u16; Tables::WORDS];
-    let problem = first::prepared(shop, order, &mut tables);
-    write_steps(rt, shop, order, trace, &tables, problem, room)
+    let mut problem = first::prepared(shop, order, &mut tables);
+    write_steps(rt, shop, order, trace, &tables, &mut problem, room)
 }
 
 // The listing of three sheets goes to standard output.

@@ -2,7 +2,7 @@
 use mathlib.Core.Path.{ap, ◌∙◌}
 use borrow.Author.Rules.{rules}
 use Rattle.trace_reader.specs.declared.reader.Reader.{Reader}
-use Rattle.listing_main.proofs.TurnsSoFar.{begun, over, narrow, turned}
+use Rattle.listing_main.proofs.TurnsSoFar.{begun, over, turning, turned}
 use Rattle.listing_main.proofs.steps.write_steps.Goals as goal
 
 pub loop-step-init : goal.loop-step-init
@@ -14,11 +14,10 @@ loop-step-init g c =
       begun (ap (λ (r : Reader). r.row.0) opened ∙ c.open-step-items.ensures.row) c.requires.1,
     )
 
-pub put_piece-end-requires-clause-narrow : goal.put_piece-end-requires-clause-narrow
-put_piece-end-requires-clause-narrow g c =
+pub turn-requires : goal.turn-requires
+turn-requires g c =
     let step = c.in-Some.ensures.steps in
-    let so_far = c.loop-step.invariant in
-    narrow so_far.3 so_far.2 step.reads step.numbered c.take_step-told.ensures
+    (c.requires.0, turning c.loop-step.invariant.3 c.loop-step.invariant.2 step.reads step.numbered c.requires.1.roomy)
 
 pub loop-step-preserved : goal.loop-step-preserved
 loop-step-preserved g c =
@@ -27,8 +26,7 @@ loop-step-preserved g c =
       tt,
       tt,
       ap (λ t. t.now) step.held ∙ so_far.2,
-      turned so_far.3 so_far.2 step.reads step.numbered c.take_step-told.ensures c.in-Some-make_space.ensures (search rules)
-          c.put_piece-end.ensures.few c.put_piece-end.ensures.text step.onward,
+      turned so_far.3 so_far.2 step.reads step.numbered c.in-Some-turn.ensures (search rules) step.onward,
     )
 
 pub returns : goal.returns
