@@ -1,5 +1,5 @@
 -- What the join program prints and writes. Document 02, Req 02; document 01, "One core of sixty centimetres", for the line and the files.
-use Rattle.std.specs.Prelude.{ℕ, ◌+◌, ◌*◌, ◌≡◌, ◌≢◌, List, replicate, Option, MatchOption}
+use Rattle.std.specs.Prelude.{ℕ, ◌+◌, ◌*◌, ◌≡◌, ◌≢◌, List, take, replicate, Option, MatchOption}
 use Rattle.hgn.specs.Lent.{Lent}
 use Rattle.hgn.specs.Rows.{most_rows}
 use Rattle.hgn.specs.Order.{size_words}
@@ -28,14 +28,15 @@ order_file shop first second = bytes_of (sheet_in (joined shop first second).roo
 abbrev pub file_bytes : ℕ
 file_bytes = 2 * room_words
 
--- What the code answers for one shop: the line and, of a join that is written, the bytes of its file. A refused join has no file.
-abbrev pub Joins : List ℕ → List ℕ → List ℕ → Answer → Type 0
-Joins shop first second a =
-    (a.line.now ≡ printed shop first second)
+-- What the code answers for one shop: how many bytes of the line stand first in a room, and, of a join that is written, how many of its file in
+-- another. A refused join has no file.
+abbrev pub Joins : List ℕ → List ℕ → List ℕ → List ℕ → List ℕ → Answer → Type 0
+Joins shop first second line file a =
+    (take a.line line ≡ printed shop first second)
     × MatchOption a.file ((joined shop first second).refusal.number ≢ 0)
-    (λ file. ((joined shop first second).refusal.number ≡ 0) × (file.now ≡ order_file shop first second))
+    (λ size. ((joined shop first second).refusal.number ≡ 0) × (take size file ≡ order_file shop first second))
 
 -- What the code answers for two shop sheets: where their words differ, nothing is joined; else it joins by the first.
-abbrev pub Answers : List ℕ → List ℕ → List ℕ → List ℕ → Option Answer → Type 0
-Answers shop other first second a =
-    MatchOption a (shop_words shop ≢ shop_words other) (λ j. (shop_words shop ≡ shop_words other) × Joins shop first second j)
+abbrev pub Answers : List ℕ → List ℕ → List ℕ → List ℕ → List ℕ → List ℕ → Option Answer → Type 0
+Answers shop other first second line file a =
+    MatchOption a (shop_words shop ≢ shop_words other) (λ j. (shop_words shop ≡ shop_words other) × Joins shop first second line file j)

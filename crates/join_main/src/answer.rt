@@ -2,7 +2,7 @@
 ghost use Rattle.std.specs.Prelude.{◌≡◌, ◌*◌, ◌≤◌, length};
 ghost use Rattle.hgn.specs.JoinSheet.{write_join, sheet_in};
 ghost use Rattle.sheet_rows.specs.Refusals.{lent_of};
-ghost use Rattle.sheet_files.specs.Words.{shop_words, order_words, bytes_of};
+ghost use Rattle.sheet_files.specs.Words.{shop_words, order_words, bytes_of, Filled};
 ghost use Rattle.sheet_files.specs.Texts.{heading_bytes};
 ghost use Rattle.join_main.specs.Printed.{file_bytes, Joins, Answers};
 
@@ -37,41 +37,35 @@ fn join_bytes(shop: &[u8], first: &[u8], second: &[u8], room: &mut [u16]) -> Res
     join(shop, first, second, room)
 }
 
-// The bytes of the order sheet that stands first in a join's room, in the first bytes of another.
-fn sheet_bytes<'a>(words: &[u16], room: &'a mut [u8]) -> &'a [u8]
+// The bytes of the order sheet that stands first in a join's room go into the first bytes of another. Answers how many.
+fn sheet_bytes(words: &[u16], room: &mut [u8]) -> usize
     requires { 2 * length words.now ≤ length room.old }
-    ensures { result.now ≡ bytes_of (sheet_in words.now) }
+    ensures { Filled (bytes_of (sheet_in words.now)) room.old room.new result }
 {
     let sizes = OrderSizes::of(words);
     let sheet = front(words, Order::SIZES + 2 * usize::from(sizes.rows));
-    let count = bytes_of(sheet, room);
-    front(room, count)
+    bytes_of(sheet, room)
 }
 
-// The line goes into the first bytes of one room, and a sheet that is written into those of another.
-fn write_join<'a>(
-    shop: &[u8],
-    first: &[u8],
-    second: &[u8],
-    line: &'a mut [u8],
-    file: &'a mut [u8],
-) -> Answer<'a>
+// The line goes into the first bytes of one room, and a sheet that is written into those of another; what stands behind them is left free.
+fn write_join(shop: &[u8], first: &[u8], second: &[u8], line: &mut [u8], file: &mut [u8]) -> Answer
     requires { (heading_bytes ≤ length line.old) × (file_bytes ≤ length file.old) }
-    ensures { Joins shop.now first.now second.now result }
+    ensures { Joins shop.now first.now second.now line.new file.new result }
 {
     let mut room = [0u16; ROOM_WORDS];
     match join_bytes(shop, first, second, &mut room) {
         Ok(()) => {
             let end = text::put_accepted(line, 0);
+            let size = sheet_bytes(&room, file);
             Answer {
-                line: front(line, end),
-                file: Some(sheet_bytes(&room, file)),
+                line: end,
+                file: Some(size),
             }
         }
         Err(refusal) => {
             let end = text::put_refusal(line, refusal);
             Answer {
-                line: front(line, end),
+                line: end,
                 file: None,
             }
         }
@@ -79,16 +73,16 @@ fn write_join<'a>(
 }
 
 // The line and the file of a join, by the first of two shop sheets; none where the other differs from it.
-pub fn write_answer<'a>(
+pub fn write_answer(
     shop: &[u8],
     other: &[u8],
     first: &[u8],
     second: &[u8],
-    line: &'a mut [u8],
-    file: &'a mut [u8],
-) -> Option<Answer<'a>>
+    line: &mut [u8],
+    file: &mut [u8],
+) -> Option<Answer>
     requires { (heading_bytes ≤ length line.old) × (file_bytes ≤ length file.old) }
-    ensures { Answers shop.now other.now first.now second.now result }
+    ensures { Answers shop.now other.now first.now second.now line.new file.new result }
 {
     if same_shops(shop, other) {
         return Some(write_join(shop, first, second, line, file));

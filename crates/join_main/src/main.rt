@@ -7,6 +7,7 @@ mod same;
 
 use answer::{FILE_BYTES, write_answer};
 use sheet_files::text::Text;
+use sheet_files::words::front;
 use sheet_files::{file, written};
 use std::rt::Files;
 
@@ -25,12 +26,12 @@ fn answer_to(
         let _ = rt.eprintln("join: the two folders have different shop sheets");
         return;
     };
-    if let Some(order) = answer.file
-        && !written::write_new(rt, b"join", b"order", order)
+    if let Some(size) = answer.file
+        && !written::write_new(rt, b"join", b"order", front(&order, size))
     {
         return;
     }
-    written::print_line(rt, b"join", answer.line);
+    written::print_line(rt, b"join", front(&line, answer.line));
 }
 
 // A file that can't be read ends the program with nothing on standard output: its line on standard error is the answer.

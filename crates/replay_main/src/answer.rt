@@ -52,10 +52,10 @@ fn put_lines(text: &mut [u8], at: usize, plan: &[u16]) -> usize
     end
 }
 
-// The text, in the first bytes of the room.
-pub fn write_answer<'a>(shop: &[u8], order: &[u8], trace: &[u8], room: &'a mut [u8]) -> &'a [u8]
+// The text goes into the first bytes of the room; what stands behind it is left free. Answers how many they are.
+pub fn write_answer(shop: &[u8], order: &[u8], trace: &[u8], room: &mut [u8]) -> usize
     requires { most_bytes ≤ length room.old }
-    ensures { result.now ≡ printed shop.now order.now trace.now }
+    ensures { take result room.new ≡ printed shop.now order.now trace.now }
 {
     let mut plan = [0u16; Trace::MOST_STEPS as usize];
     match replay_bytes(shop, order, trace, &mut plan) {
@@ -68,19 +68,15 @@ pub fn write_answer<'a>(shop: &[u8], order: &[u8], trace: &[u8], room: &'a mut [
                 accepted.cost,
                 NO_ATOM,
             );
-            let end = put_lines(room, heading, front(&plan, usize::from(accepted.count)));
-            front(room, end)
+            put_lines(room, heading, front(&plan, usize::from(accepted.count)))
         }
-        Err(failure) => {
-            let end = text::put_heading(
-                room,
-                failure.number(),
-                failure.refusal.place,
-                0,
-                0,
-                failure.atom_word(),
-            );
-            front(room, end)
-        }
+        Err(failure) => text::put_heading(
+            room,
+            failure.number(),
+            failure.refusal.place,
+            0,
+            0,
+            failure.atom_word(),
+        ),
     }
 }

@@ -4,6 +4,7 @@
 
 mod answer;
 
+use sheet_files::words::front;
 use sheet_files::{file, written};
 
 // A file that can't be read ends the program with nothing on standard output: its line on standard error is the answer.
@@ -21,6 +22,6 @@ fn main(rt: HostRuntime) {
         return;
     };
     let mut text = [0u8; answer::MOST_BYTES];
-    let text = answer::write_answer(shop, order, trace, &mut text);
-    written::print_line(&rt, b"replay", text);
+    let length = answer::write_answer(shop, order, trace, &mut text);
+    written::print_line(&rt, b"replay", front(&text, length));
 }

@@ -30,10 +30,10 @@ trace_file shop order depth = bytes_of (trace_in (searched shop order depth).ref
 abbrev pub file_bytes : ℕ
 file_bytes = 2 * room_words
 
--- What the code answers for the bytes of two files: the line and, of a search that found a trace, the bytes of its file. A refused search has no
--- file.
-abbrev pub Answers : List ℕ → List ℕ → ℕ → Answer → Type 0
-Answers shop order depth a =
-    (a.line.now ≡ printed shop order depth)
+-- What the code answers for the bytes of two files: how many bytes of the line stand first in a room, and, of a search that found a trace, how many
+-- of its file in another. A refused search has no file.
+abbrev pub Answers : List ℕ → List ℕ → ℕ → List ℕ → List ℕ → Answer → Type 0
+Answers shop order depth line file a =
+    (take a.line line ≡ printed shop order depth)
     × MatchOption a.file ((searched shop order depth).refusal.number ≢ 0)
-    (λ file. ((searched shop order depth).refusal.number ≡ 0) × (file.now ≡ trace_file shop order depth))
+    (λ size. ((searched shop order depth).refusal.number ≡ 0) × (take size file ≡ trace_file shop order depth))

@@ -2,7 +2,7 @@
 ghost use Rattle.std.specs.Prelude.{◌≡◌, ◌*◌, ◌≤◌, length};
 ghost use Rattle.hgn.specs.Search as Search;
 ghost use Rattle.search.specs.Founds.{searched_of};
-ghost use Rattle.sheet_files.specs.Words.{shop_words, order_words, bytes_of};
+ghost use Rattle.sheet_files.specs.Words.{shop_words, order_words, bytes_of, Filled};
 ghost use Rattle.sheet_files.specs.Texts.{heading_bytes};
 ghost use Rattle.search_main.specs.Printed.{trace_in, file_bytes, Answers};
 
@@ -30,40 +30,40 @@ fn search_bytes(shop: &[u8], order: &[u8], depth: u32, room: &mut [u16]) -> Resu
     search(shop_words.words(), order_words.words(), depth, room)
 }
 
-// The bytes of the trace that stands first in a search's room, with so many steps, in the first bytes of another.
-fn trace_bytes<'a>(words: &[u16], steps: u16, room: &'a mut [u8]) -> &'a [u8]
+// The bytes of the trace that stands first in a search's room, with so many steps, go into the first bytes of another. Answers how many.
+fn trace_bytes(words: &[u16], steps: u16, room: &mut [u8]) -> usize
     requires { 2 * length words.now ≤ length room.old }
-    ensures { result.now ≡ bytes_of (trace_in steps words.now) }
+    ensures { Filled (bytes_of (trace_in steps words.now)) room.old room.new result }
 {
     let trace = front(words, Trace::SIZES + 2 * usize::from(steps));
-    let count = bytes_of(trace, room);
-    front(room, count)
+    bytes_of(trace, room)
 }
 
-// The line goes into the first bytes of one room, and a trace that is found into those of another.
-pub fn write_answer<'a>(
+// The line goes into the first bytes of one room, and a trace that is found into those of another; what stands behind them is left free.
+pub fn write_answer(
     shop: &[u8],
     order: &[u8],
     depth: u32,
-    line: &'a mut [u8],
-    file: &'a mut [u8],
-) -> Answer<'a>
+    line: &mut [u8],
+    file: &mut [u8],
+) -> Answer
     requires { (heading_bytes ≤ length line.old) × (file_bytes ≤ length file.old) }
-    ensures { Answers shop.now order.now depth result }
+    ensures { Answers shop.now order.now depth line.new file.new result }
 {
     let mut room = [0u16; ROOM_WORDS];
     match search_bytes(shop, order, depth, &mut room) {
         Ok(steps) => {
             let end = text::put_accepted(line, steps);
+            let size = trace_bytes(&room, steps, file);
             Answer {
-                line: front(line, end),
-                file: Some(trace_bytes(&room, steps, file)),
+                line: end,
+                file: Some(size),
             }
         }
         Err(refusal) => {
             let end = text::put_refusal(line, refusal);
             Answer {
-                line: front(line, end),
+                line: end,
                 file: None,
             }
         }

@@ -8,6 +8,7 @@ mod asked;
 mod depth;
 
 use sheet_files::text::Text;
+use sheet_files::words::front;
 use sheet_files::{file, written};
 use std::rt::Files;
 
@@ -24,12 +25,12 @@ fn run(rt: &(impl Files + Print + Eprint), depth: u32, name: &[u8]) {
     let mut line = [0u8; Text::HEADING_BYTES];
     let mut trace = [0u8; answer::FILE_BYTES];
     let answer = answer::write_answer(shop, order, depth, &mut line, &mut trace);
-    if let Some(trace) = answer.file
-        && !written::replace(rt, b"search", b"trace", name, trace)
+    if let Some(size) = answer.file
+        && !written::replace(rt, b"search", b"trace", name, front(&trace, size))
     {
         return;
     }
-    written::print_line(rt, b"search", answer.line);
+    written::print_line(rt, b"search", front(&line, answer.line));
 }
 
 fn main(rt: HostRuntime) {

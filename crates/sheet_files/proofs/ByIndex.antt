@@ -1,7 +1,7 @@
 -- The words of bytes and the bytes of words, counted and read by index, and a room into which they go one by one. Assumes nothing.
 use Prim.Native.Nat.{ℕ, zero, suc, ◌+◌, ◌*◌, ◌/◌, ◌%◌, ◌<◌, ◌≤◌, min}
 use native.Mathlib.Omega.{arith}
-use mathlib.Core.Path.{◌≡◌, refl, sym, ap, ap₂, ◌∙◌}
+use mathlib.Core.Path.{◌≡◌, refl, sym, ap, ap₂, subst, ◌∙◌}
 use mathlib.Core.List.{List, [], ◌∷◌, ◌++◌}
 use lib.ListN.{length, get_or, set, take, drop}
 use lib.Seq.{take_at, take_all}
@@ -100,6 +100,11 @@ bytes_whole words before room i end bytes rest = record {
       (ap {B = List ℕ} (λ (n : ℕ). take (2 * n) room) (sym end) ∙ bytes ∙ ap bytes_of (take_all i words (omega arith))) rest
       ∙ ap {B = List ℕ} (λ (n : ℕ). bytes_of words ++ drop n before) (sym (length_bytes words));
 }
+
+-- Equal words have equal bytes.
+pub filled_bytes : {front words before room : List ℕ} {count : ℕ} → front ≡ words → Filled (bytes_of front) before room count
+    → Filled (bytes_of words) before room count
+filled_bytes {before = before} {room = room} {count = count} e f = subst (λ l. Filled (bytes_of l) before room count) e f
 
 -- The first of a filled room, as many as were counted, are those that went in.
 pub front_of_filled : {words before room front : List ℕ} {count : ℕ} → Filled words before room count → front ≡ take count room → front ≡ words

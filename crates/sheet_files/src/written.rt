@@ -6,11 +6,12 @@ use std::io::Write;
 use std::rt::Files;
 use std::{fs, io};
 
-// The answer of a call that writes a sheet into lent room: the line on standard output and, where a sheet is written, the bytes of its file.
+// The answer of a call that writes a sheet into lent rooms: how many bytes of one are the line on standard output and, where a sheet is written, how
+// many of another are its file.
 #[derive(Clone, Copy)]
-pub struct Answer<'a> {
-    pub line: &'a [u8],
-    pub file: Option<&'a [u8]>,
+pub struct Answer {
+    pub line: usize,
+    pub file: Option<usize>,
 }
 
 // All the bytes go into the open file, which is then closed. What a close would tell of them no caller sees, so the system is first asked to

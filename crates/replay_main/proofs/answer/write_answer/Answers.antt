@@ -9,13 +9,11 @@ use Rattle.replay_main.proofs.answer.write_answer.Goals as goal
 pub returns-in-Ok : goal.returns-in-Ok
 unfolding printed
 returns-in-Ok c =
-    c.front-in-Ok.ensures ∙ text_is _ _ _ c.in-Ok.ensures c.put_heading-heading.ensures.text
-    (rw c.from.ensures at c.front.ensures) c.put_lines-end.ensures
+    text_is _ _ _ c.in-Ok.ensures c.put_heading-heading.ensures.text (rw c.from.ensures at c.front.ensures) c.put_lines.ensures
 
 pub returns-in-Err : goal.returns-in-Err
 unfolding printed refusal
 returns-in-Err c =
-    c.front-in-Err.ensures
-    ∙ heading_is_text c.in-Err.ensures
-    (c.put_heading-end.ensures.text
+    heading_is_text c.in-Err.ensures
+    (c.put_heading.ensures.text
     ∙ ap₂ {C = List ℕ} (λ (n a : ℕ). heading n c.in-Err.failure.refusal.place 0 0 a) c.number.ensures c.atom_word.ensures) refl
