@@ -1,6 +1,6 @@
 -- The turns in which the listing program makes the text of an accepted trace: each takes a step and puts its piece behind what a room holds.
 -- Document 02, Req 03.
-use Rattle.std.specs.Prelude.{ℕ, ◌+◌, ◌≤◌, ◌≡◌, ◌⊎◌, Bool, true, List, [], ◌++◌, length, take, Option, None, Some}
+use Rattle.std.specs.Prelude.{ℕ, ◌+◌, ◌≤◌, ◌<◌, ◌≡◌, ◌⊎◌, Bool, true, List, [], ◌++◌, length, take, Option, None, Some}
 use Rattle.std.proofs.Math.Option.{none}
 use Rattle.hgn.specs.State.{State}
 use Rattle.network.specs.declared.goals.Goals.{Goals}
@@ -11,9 +11,9 @@ use Rattle.listing_main.specs.Listed.{listing, number_to}
 use Rattle.listing_main.specs.Pieces.{piece_bytes, text_ahead, Ahead}
 use Rattle.listing_main.specs.declared.steps.Reached.{Reached}
 
--- A largest piece fits behind what a room of this size holds, or at its start.
+-- A largest piece fits behind what a room of this size holds, or, only where it would not fit there, at its start.
 abbrev pub Spaced : ℕ → ℕ → Option ℕ → Type 0
-Spaced size end (Some at) = (at + piece_bytes ≤ size) × ((at ≡ end) ⊎ (at ≡ 0))
+Spaced size end (Some at) = (at + piece_bytes ≤ size) × ((at ≡ end) ⊎ ((at ≡ 0) × (size < end + piece_bytes)))
 Spaced size end None = Unit {0}
 
 -- What a turn asks: some accepted trace has the step at the row of its number, and the room takes a largest piece.
