@@ -9,7 +9,7 @@ use network::goals::Goals;
 use step::failure::Failure;
 use step::moves::Step;
 use step::problem::{Problem, Stepped};
-use step::record;
+use step::taking;
 
 // The step at its number in the trace. A step that is refused answers what the first question that fails tells, with its atom.
 pub fn step_forward(
@@ -23,7 +23,15 @@ pub fn step_forward(
     requires going { Going shop.now order.now step.number bench.old.atoms bench.old.waiting }
     ensures { Forward shop.now order.now step.number (record { move = step.mv; place = step.place.0 }) bench.old result bench.new }
 {
-    *bench = record::step(shop, order, tables, *bench, step, Goals::MOST)?;
+    taking::take(
+        shop,
+        order,
+        tables,
+        &mut bench.atoms,
+        &mut bench.waiting,
+        step,
+        Goals::MOST,
+    )?;
     Ok(())
 }
 

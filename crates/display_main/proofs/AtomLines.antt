@@ -1,23 +1,21 @@
--- The true atoms of a state, counted, and written one by one. Assumes nothing.
-use Prim.Native.Nat.{ℕ, suc, ◌+◌, ◌*◌, ◌<◌, ◌≤◌}
+-- The true atoms of a state, counted and written one by one. Assumes nothing.
+use Prim.Native.Nat.{ℕ, ◌+◌, ◌*◌, ◌<◌, ◌≤◌}
 use native.Mathlib.Omega.{arith}
 use native.Mathlib.Numerals.{add-one}
 use mathlib.Core.Path.{◌≡◌, refl, sym, ap, ◌∙◌}
-use mathlib.Core.Bool.{Bool, true, false}
+use mathlib.Core.Bool.{true, false}
 use mathlib.Core.List.{List, [], ◌∷◌, ◌++◌, append_assoc, append-nil}
 use lib.ListN.{length, get_or, take, drop, drop_of_length-le}
 use lib.Seq.{drop-cons}
-use Rattle.std.specs.List.{filter}
 use Rattle.hgn.specs.State.{State}
 use Rattle.sheet_files.specs.Texts.{ended, newline, number_bytes}
 use Rattle.display_main.specs.Moments.{true_from, true_atoms, number_lines}
 
--- As many atoms are told as are true.
-pub true_counted : (i : ℕ) (s : State) → length (filter (λ (b : Bool). b) s) ≡ length (true_from i s)
-unfolding true_from
-true_counted i [] = refl
-true_counted i (true ∷ s) = ap suc (true_counted (suc i) s)
-true_counted i (false ∷ s) = true_counted (suc i) s
+-- The atoms of the state so far have been counted.
+pub record Counted (s : State) (count i : ℕ) : Type 0 where
+  pub inside : i ≤ length s
+  pub few : count ≤ i
+  pub whole : count + length (true_from i (drop i s)) ≡ length (true_atoms s)
 
 -- The text so far: what stood in front, and the lines of the atoms passed.
 pub record AtomLines (s : State) (before text : List ℕ) (at end i : ℕ) : Type 0 where
@@ -39,6 +37,26 @@ module _ (s : State) where
   true_none : (i : ℕ) → length s ≤ i → true_from i (drop i s) ≡ []
   unfolding true_from
   true_none i h = rw (drop_of_length-le s h) refl
+
+  pub counted_none : Counted s 0 0
+  counted_none = record { inside = omega arith; few = omega arith; whole = omega arith }
+
+  pub counted_in : (count i : ℕ) → Counted s count i → i < length s → get_or s i false ≡ true → Counted s (count + 1) (i + 1)
+  counted_in count i k h e = record {
+    inside = omega arith;
+    few = omega (arith, k.few);
+    whole = omega (arith, k.whole, ap length (true_in i h e));
+  }
+
+  pub counted_out : (count i : ℕ) → Counted s count i → i < length s → get_or s i false ≡ false → Counted s count (i + 1)
+  counted_out count i k h e = record {
+    inside = omega arith;
+    few = omega (arith, k.few);
+    whole = omega (arith, k.whole, ap length (true_out i h e));
+  }
+
+  pub counted_all : (count i : ℕ) → Counted s count i → length s ≤ i → count ≡ length (true_atoms s)
+  counted_all count i k h = omega (arith, k.whole, ap length (true_none i h))
 
   module _ (before : List ℕ) (at : ℕ) where
     pub atoms_none : AtomLines s before before at at 0

@@ -27,7 +27,14 @@ fn true_count(atoms: &[bool]) -> u16
     requires { length atoms.now ≤ most_atoms }
     ensures { result ≡ length (true_atoms atoms.now) }
 {
-    atoms.iter().filter(|atom| **atom).count() as u16
+    // By the atom's number, here and below: through an iterator's closure or its pairs each atom took twice as long.
+    let mut count = 0;
+    for atom in 0..atoms.len() {
+        if atoms[atom] {
+            count += 1;
+        }
+    }
+    count
 }
 
 // A line for each atom that is true goes behind the first bytes of the text. Answers how many bytes there are now.
@@ -37,8 +44,8 @@ fn put_atoms(text: &mut [u8], at: usize, atoms: &[bool]) -> usize
     ensures text { take result text.new ≡ take at text.old ++ number_lines (true_atoms atoms.now) }
 {
     let mut end = at;
-    for (atom, holds) in atoms.iter().enumerate() {
-        if *holds {
+    for atom in 0..atoms.len() {
+        if atoms[atom] {
             end = text::put(text, end, atom as u64, b'\n');
         }
     }

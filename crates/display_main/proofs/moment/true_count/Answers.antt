@@ -1,13 +1,17 @@
--- The atoms that pass are those that are true. Assumes nothing.
-use Rattle.std.proofs.Common.{Bool, ◌∙◌, rules}
-use Rattle.std.proofs.lemmas.Iterator.{YieldsList-from_slice}
-use Rattle.std.proofs.lemmas.Iterator.Consumers.{YieldsList-from_filter, count_from_yields_List}
-use borrow.Author.Tests.{tests}
-use Rattle.display_main.proofs.AtomLines.{true_counted}
+-- The facts that the loop leaves. Assumes nothing.
+use Rattle.display_main.proofs.AtomLines.{counted_none, counted_in, counted_out, counted_all}
 use Rattle.display_main.proofs.moment.true_count.Goals as goal
+use Rattle.display_main.proofs.moment.true_count.Goals.{then-atoms-atom, else-atoms-atom}
+
+pub loop-atom-init : goal.loop-atom-init
+loop-atom-init c = counted_none _
+
+pub loop-atom-preserved : goal.loop-atom-preserved
+loop-atom-preserved c =
+    elim c.if-atoms-atom.branch [
+      | then-atoms-atom w ↦ rw w.count-is (counted_in _ _ _ c.loop-atom.invariant c.loop-atom-test.true w.if-atoms-atom.true)
+      | else-atoms-atom w ↦ rw w.count-is (counted_out _ _ _ c.loop-atom.invariant c.loop-atom-test.true w.if-atoms-atom.false)
+    ]
 
 pub returns : goal.returns
-returns c =
-    count_from_yields_List c.filter.result _ c.count.ensures.ran
-    (YieldsList-from_filter _ (λ (b : Bool). b) (YieldsList-from_slice c.args.atoms.now (cc)) c.filter.ensures.closure (λ x b q k. search (rules, tests)))
-    ∙ true_counted 0 c.args.atoms.now
+returns c = counted_all _ _ _ c.loop-atom.invariant c.loop-atom-test.false
