@@ -103,7 +103,9 @@ fn display_words(
     }
 }
 
-// The moments of what three files say. Answers how many bytes went out; none where not all could be written.
+// The moments of what three files say. Answers how many bytes went out; none where not all could be written. Kept apart: inlined, its words would
+// take stack while the files are read too.
+#[inline(never)]
 pub fn display(rt: &(impl Print + Eprint), shop: &[u8], order: &[u8], trace: &[u8]) -> Option<usize>
     ensures { Writes 0 (shown_text (shop_words shop.now) (order_words order.now) (trace_words trace.now)) result }
 {

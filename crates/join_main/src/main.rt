@@ -12,7 +12,8 @@ use sheet_files::{file, written};
 use std::rt::Files;
 
 // The answer goes to standard output, a joined sheet first into its file. What can't be written, and two shop sheets that differ, have a line on
-// standard error and nothing on standard output.
+// standard error and nothing on standard output. Kept apart: inlined, its rooms would take stack while the files are read too.
+#[inline(never)]
 fn answer_to(
     rt: &(impl Files + Print + Eprint),
     shop: &[u8],

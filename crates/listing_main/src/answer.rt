@@ -87,7 +87,8 @@ fn list_words(rt: &(impl Print + Eprint), shop: &[u16], order: &[u16], trace: &[
     }
 }
 
-// The listing of what three files say.
+// The listing of what three files say. Kept apart: inlined, its words would take stack while the files are read too.
+#[inline(never)]
 pub fn list(rt: &(impl Print + Eprint), shop: &[u8], order: &[u8], trace: &[u8]) -> Printed
     ensures { Prints (shop_words shop.now) (order_words order.now) (trace_words trace.now) result }
 {

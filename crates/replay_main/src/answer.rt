@@ -19,7 +19,8 @@ use step::failure::Failure;
 pub const MOST_BYTES: usize = Text::HEADING_BYTES
     + Text::NUMBER_BYTES * (Trace::MOST_STEPS as usize);
 
-// The replay of what three files say.
+// The replay of what three files say. Kept apart: inlined, its words would take stack while the files are read too.
+#[inline(never)]
 fn replay_bytes(
     shop: &[u8],
     order: &[u8],
