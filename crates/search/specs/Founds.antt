@@ -35,6 +35,11 @@ abbrev pub Finds : (ℕ → Option (List Step)) → ℕ → ℕ → Result Steps
 Finds search n left (Ok s) = search left ≡ some (steps_from n left s)
 Finds search n left (Err e) = (k : ℕ) → Covers e.0 left k → search k ≡ none
 
+-- What a search told that leaves the steps that it finds in lent room.
+abbrev pub left_in : {A : Type 0} → Steps → Result A Exhausted → Result Steps Exhausted
+left_in s (Ok _) = Ok s
+left_in s (Err e) = Err e
+
 -- The steps of a trace found, all that it has.
 abbrev pub steps_of : Shortest → List Step
 steps_of r = steps_from 0 r.length r.steps

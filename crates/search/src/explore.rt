@@ -10,7 +10,7 @@ ghost use Rattle.network.specs.Goals.{count_in};
 ghost use Rattle.step.specs.Taking.{Going};
 ghost use Rattle.search_theory.specs.Pruned.{pruned_of, moves_from};
 ghost use Rattle.search_pruning.specs.Tests.{step_of};
-ghost use Rattle.search.specs.Founds.{Finds};
+ghost use Rattle.search.specs.Founds.{Finds, left_in};
 ghost use Rattle.search.specs.Trials.{first_node, problem_at, Stands, Open, tried};
 
 use crate::found::{Exhausted, Steps};
@@ -49,22 +49,24 @@ impl Node {
     }
 }
 
-// The first trace of so many steps from a moment on, none of its steps left out. The last step was taken at the moment `before`.
+// The first trace of so many steps from a moment on, none of its steps left out, into lent room: steps that are handed back are copied, and each level
+// of a search would keep some copies on the stack. The last step was taken at the moment `before`.
 #[cycle(follow_moves_places)]
 pub fn places(
     given: &Given<'_>,
     here: Moment<'_>,
     before: Moment<'_>,
     node: Node,
-) -> Result<Steps, Exhausted>
+    found: &mut Steps,
+) -> Result<(), Exhausted>
     requires { Stands given.now here before node }
     ensures { Finds (λ k. pruned_of k (rules_of given.now.shop.now) (problem_at given.now before.entry) (step_of node.last) node.number
-        (problem_at given.now here.entry)) node.number node.left result }
+        (problem_at given.now here.entry)) node.number node.left (left_in found.new result) }
 {
     let count = here.goals.len();
     if node.left == 0 {
         if count == 0 {
-            return Ok(Steps::NONE);
+            return Ok(());
         }
         return Err(node.exhausted.one_more());
     }
@@ -72,8 +74,15 @@ pub fn places(
     for i in 0..count {
         let place = Place(i);
         if here.goals.is_free(place) {
-            match moves(given, here, before, Node { exhausted, ..node }, place) {
-                Ok(steps) => return Ok(steps),
+            match moves(
+                given,
+                here,
+                before,
+                Node { exhausted, ..node },
+                place,
+                found,
+            ) {
+                Ok(()) => return Ok(()),
                 Err(others) => exhausted = exhausted.max(others),
             }
         }
@@ -89,12 +98,13 @@ fn moves(
     before: Moment<'_>,
     node: Node,
     place: Place,
-) -> Result<Steps, Exhausted>
+    found: &mut Steps,
+) -> Result<(), Exhausted>
     requires stands { Stands given.now here before node × (1 ≤ node.left) }
     requires place_bound { (place.0 < count_in here.goals.now) × (freeIn (problem_at given.now here).waiting (goal_at (problem_at given.now here).waiting place.0) ≡ true) }
     ensures { Finds (λ k. moves_from (tried (k - 1) (rules_of given.now.shop.now) (problem_at given.now before.entry) (step_of node.last) node.number
         (problem_at given.now here.entry)) (domain given.now.shop.now) place.0 0)
-        node.number node.left result }
+        node.number node.left (left_in found.new result) }
 {
     let sizes = ShopSizes::of(given.shop);
     let all = sizes.actions + sizes.methods;
@@ -104,10 +114,18 @@ fn moves(
         let mv = moves::nth(i, sizes.actions);
         let choice = Choice { mv, place };
         if trial::can_tell(exhausted, node.left - 1, count, mv)
-            && trial::is_open(given.shop, given.order, given.tables, here, before, node.last, choice)
+            && trial::is_open(
+                given.shop,
+                given.order,
+                given.tables,
+                here,
+                before,
+                node.last,
+                choice,
+            )
         {
-            match follow(given, here, Node { exhausted, ..node }, choice) {
-                Ok(steps) => return Ok(steps),
+            match follow(given, here, Node { exhausted, ..node }, choice, found) {
+                Ok(()) => return Ok(()),
                 Err(others) => exhausted = exhausted.max(others),
             }
         }
@@ -122,13 +140,14 @@ fn follow(
     here: Moment<'_>,
     node: Node,
     choice: Choice,
-) -> Result<Steps, Exhausted>
+    found: &mut Steps,
+) -> Result<(), Exhausted>
     requires going { Going given.now.shop.now given.now.order.now node.number here.atoms.now here.goals.now × (1 ≤ node.left)
         × (node.number + node.left ≤ most_depth) }
     requires fact { (P₀ : Problem) × (y : Step) × Open given.now.shop.now P₀ y (problem_at given.now here) choice }
     ensures { (P₀ : Problem) (y : Step) → Open given.now.shop.now P₀ y (problem_at given.now here.entry) choice
         → Finds (λ k. tried (k - 1) (rules_of given.now.shop.now) P₀ y node.number (problem_at given.now here.entry) (step_of choice))
-        node.number node.left result }
+        node.number node.left (left_in found.new result) }
 {
     let left = node.left - 1;
     let number = node.number;
@@ -159,6 +178,7 @@ fn follow(
     if !trial::may_suffice(given, next, next_node) {
         return Err(node.exhausted.one_more());
     }
-    let steps = places(given, next, here, next_node)?;
-    Ok(steps.with(number, moves::number_of(choice.mv), choice.place))
+    places(given, next, here, next_node, found)?;
+    found.put(number, moves::number_of(choice.mv), choice.place);
+    Ok(())
 }

@@ -31,12 +31,20 @@ impl Steps {
         }; Steps::MOST as usize],
     };
 
+    // The step of this number is put before the trace's others.
+    pub fn put(&mut self, number: u16, mv: u16, place: Place)
+        requires { number < most_depth }
+        ensures { (k : ℕ) → steps_from number (suc k) self.new ≡ step mv place.0 ∷ steps_from (number + 1) k self.old }
+    {
+        self.listed[number as usize] = Step { mv, place };
+    }
+
     // The trace with the step of this number put before its others.
     pub fn with(mut self, number: u16, mv: u16, place: Place) -> Steps
         requires { number < most_depth }
         ensures { (k : ℕ) → steps_from number (suc k) result ≡ step mv place.0 ∷ steps_from (number + 1) k self }
     {
-        self.listed[number as usize] = Step { mv, place };
+        self.put(number, mv, place);
         self
     }
 }

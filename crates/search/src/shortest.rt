@@ -44,9 +44,10 @@ fn deepen(given: &Given<'_>, start: Moment<'_>, depth: u16) -> Option<Shortest>
     ) else {
         return None;
     };
+    let mut steps = Steps::NONE;
     for left in least..=depth {
-        match explore::places(given, start, start, Node::first(left)) {
-            Ok(steps) => {
+        match explore::places(given, start, start, Node::first(left), &mut steps) {
+            Ok(()) => {
                 return Some(Shortest {
                     length: left,
                     steps,

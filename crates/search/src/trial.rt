@@ -51,13 +51,7 @@ fn ask_move(
 }
 
 // No question of the move's own is answered no at a free goal, and it is no action that leaves the state as it is.
-fn may_take(
-    shop: &[u16],
-    order: &[u16],
-    tables: &[u16],
-    here: Moment<'_>,
-    choice: Choice,
-) -> bool
+fn may_take(shop: &[u16], order: &[u16], tables: &[u16], here: Moment<'_>, choice: Choice) -> bool
     requires indexed { Indexed shop.now order.now tables.now }
     requires inside { (choice.place.0 < count_in here.goals.now) × Known (action_count shop.now) (method_count shop.now) choice.mv }
     requires place_value { free (problem_of shop.now order.now here).waiting (goal_at (problem_of shop.now order.now here).waiting choice.place.0) ≡ true }
@@ -68,10 +62,7 @@ fn may_take(
         limit: Goals::MOST,
     };
     let goal = here.goals.entry_at(choice.place);
-    ask_move(
-        shop, order, tables, here.atoms, choice.mv, goal.rows, load,
-    )
-    .is_ok()
+    ask_move(shop, order, tables, here.atoms, choice.mv, goal.rows, load).is_ok()
         && !rules::has_no_effect(shop, order, tables, here.atoms, choice.mv)
 }
 

@@ -87,19 +87,19 @@ follow-places-requires t c =
 pub follow-number_of-requires : goal.follow-number_of-requires
 follow-number_of-requires t c = number_fits c.args.given.now.lent.indexed c.args.choice.mv c.requires.fact.2.taken.taking.known
 
-pub follow-returns-in_err-steps : goal.follow-returns-in_err-steps
-follow-returns-in_err-steps t c P₀ y o =
+pub follow-returns-in_err-places : goal.follow-returns-in_err-places
+follow-returns-in_err-places t c P₀ y o =
     let p = err_from_is_err_and c.from_residual.result c.from_residual.ensures.1 in
     rw (p.1, p.2)
-    (follow_none c.args.given.now.lent.indexed c.args.choice o c.args.node.number c.args.node.left c.requires.going.1 c.in_err-steps.field-0.0
-    (told_onward c.args.given.now.shop.now _ _ _ _ (Err c.in_err-steps.field-0.0) c.apply.ensures.leaves c.in_err-steps.ensures))
+    (follow_none c.args.given.now.lent.indexed c.args.choice o c.args.node.number c.args.node.left c.requires.going.1 c.in_err-places.field-0.0
+    (told_onward c.args.given.now.shop.now _ _ _ _ (Err c.in_err-places.field-0.0) c.apply.ensures.leaves c.in_err-places.ensures))
 
 pub follow-returns : goal.follow-returns
 follow-returns t c P₀ y o =
-    follow_some c.args.given.now.lent.indexed c.args.choice o c.args.node.number c.args.node.left c.requires.going.1 c.in_ok-steps.steps
-    (told_onward c.args.given.now.shop.now _ _ _ _ (Ok c.in_ok-steps.steps) c.apply.ensures.leaves c.in_ok-steps.ensures)
+    follow_some c.args.given.now.lent.indexed c.args.choice o c.args.node.number c.args.node.left c.requires.going.1 c.places.new.found
+    (told_onward c.args.given.now.shop.now _ _ _ _ (Ok c.places.new.found) c.apply.ensures.leaves c.in_ok-places.ensures)
     (suffices_is c.args.given.now.shop.now (c.args.node.left - 1) c.apply.ensures.leaves c.may_suffice.ensures c.if-not-may_suffice.false)
-    c.with.result c.number_of.ensures c.with.ensures
+    c.put.new.self c.number_of.ensures c.put.ensures
 
 -- The move routine.
 
@@ -223,9 +223,9 @@ places-returns-then-count-eq0 t c =
     let P₀ : Problem = problem_with c.args.given.now.shop.now c.args.given.now.order.now c.args.before.atoms.now c.args.before.goals.now in
     let P : Problem = problem_with c.args.given.now.shop.now c.args.given.now.order.now c.args.here.atoms.now c.args.here.goals.now in
     let y : Step = step_of c.args.node.last in
-    subst (λ (j : ℕ). pruned_of j (rules_of c.args.given.now.shop.now) P₀ y c.args.node.number P ≡ some (steps_from c.args.node.number j _))
+    subst (λ (j : ℕ). pruned_of j (rules_of c.args.given.now.shop.now) P₀ y c.args.node.number P ≡ some (steps_from c.args.node.number j c.args.found.now))
     (sym c.if-node-eq0.true)
-    (ends_found (rules_of c.args.given.now.shop.now) P₀ y c.args.node.number P _
+    (ends_found (rules_of c.args.given.now.shop.now) P₀ y c.args.node.number P c.args.found.now
     (list_length c.args.given.now.shop.now c.args.given.now.order.now c.args.here.goals.now ∙ sym c.len-count.ensures ∙ c.if-count-eq0.true))
 
 -- No step is left, and something waits.

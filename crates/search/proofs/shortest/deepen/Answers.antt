@@ -42,7 +42,7 @@ returns-in-Ok c =
     let a = c.args in
     let P : Problem = problem_at a.given.now a.start in (
       found_first _ _ _ c.loop-left.left (omega arith) c.loop-left.invariant _
-          (from_first a.given.now.shop.now a.depth _ P _ c.first.ensures (Ok c.in-Ok.steps) c.in-Ok.ensures),
+          (from_first a.given.now.shop.now a.depth _ P _ c.first.ensures (Ok c.places.new.found) c.in-Ok.ensures),
       omega arith,
     )
 
