@@ -1,15 +1,23 @@
 -- The true atoms of a state, counted and written one by one. Assumes nothing.
-use Prim.Native.Nat.{ℕ, ◌+◌, ◌*◌, ◌<◌, ◌≤◌}
+use Prim.Native.Nat.{ℕ, suc, ◌+◌, ◌*◌, ◌<◌, ◌≤◌}
 use native.Mathlib.Omega.{arith}
 use native.Mathlib.Numerals.{add-one}
 use mathlib.Core.Path.{◌≡◌, refl, sym, ap, ◌∙◌}
-use mathlib.Core.Bool.{true, false}
+use mathlib.Core.Bool.{Bool, true, false}
 use mathlib.Core.List.{List, [], ◌∷◌, ◌++◌, append_assoc, append-nil}
 use lib.ListN.{length, get_or, take, drop, drop_of_length-le}
 use lib.Seq.{drop-cons}
+use Rattle.std.specs.List.{filter}
 use Rattle.hgn.specs.State.{State}
 use Rattle.sheet_files.specs.Texts.{ended, newline, number_bytes}
 use Rattle.display_main.specs.Moments.{true_from, true_atoms, number_lines}
+
+-- As many atoms are told as are true.
+pub true_counted : (i : ℕ) (s : State) → length (filter (λ (b : Bool). b) s) ≡ length (true_from i s)
+unfolding true_from
+true_counted i [] = refl
+true_counted i (true ∷ s) = ap suc (true_counted (suc i) s)
+true_counted i (false ∷ s) = true_counted (suc i) s
 
 -- The atoms of the state so far have been counted.
 pub record Counted (s : State) (count i : ℕ) : Type 0 where

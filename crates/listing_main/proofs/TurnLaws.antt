@@ -1,5 +1,5 @@
 -- What a turn of the listing's loop leaves, and that the turns write out the whole text. Assumes nothing.
-use Prim.Native.Nat.{ℕ, ◌+◌, ◌≤◌, ◌<◌}
+use Prim.Native.Nat.{ℕ, ◌+◌, ◌≤◌}
 use native.Mathlib.Omega.{arith}
 use mathlib.Core.Path.{◌≡◌, refl, sym, ap, ◌∙◌}
 use mathlib.Core.Logic.{◌⊎◌, inl, inr}
@@ -22,7 +22,7 @@ use Rattle.network.specs.declared.goals.Goals.{Goals}
 module _ (shop sheet trace : List ℕ) {k : ℕ} {b : Problem} (end : ℕ) (room : List ℕ) where
   -- A step was taken, and its piece was put.
   pub turn_step : Ahead shop sheet trace k b → (x : Step) → row_at trace k ≡ some x → (told : Option Line) (s : State) (ws : Goals)
-      → StepTold shop sheet k x b.atoms b.waiting told s ws → (at : ℕ) → at + piece_bytes ≤ length room → (at ≡ end) ⊎ ((at ≡ 0) × (length room < end + piece_bytes))
+      → StepTold shop sheet k x b.atoms b.waiting told s ws → (at : ℕ) → at + piece_bytes ≤ length room → (at ≡ end) ⊎ (at ≡ 0)
       → (room' : List ℕ) (new : ℕ) → length room' ≡ length room → new ≤ at + piece_bytes → take new room' ≡ take at room ++ piece_text told
       → TurnOf shop sheet trace k b (record { atoms = s; waiting = ws }) end room new room'
   turn_step a x found told s ws t at space where' room' new same put text = go where'
@@ -36,7 +36,7 @@ module _ (shop sheet trace : List ℕ) {k : ℕ} {b : Problem} (end : ℕ) (room
           ∙ append_assoc (take at room) (piece_text told) ahead'
           ∙ ap {B = List ℕ} (λ l. take at room ++ l) (sym (text_on shop sheet trace a x found told s ws t))
 
-      go : (at ≡ end) ⊎ ((at ≡ 0) × (length room < end + piece_bytes)) → TurnOf shop sheet trace k b (record { atoms = s; waiting = ws }) end room new room'
+      go : (at ≡ end) ⊎ (at ≡ 0) → TurnOf shop sheet trace k b (record { atoms = s; waiting = ws }) end room new room'
       go (inl e) = record {
         fits = omega (arith, space, put, same);
         out = [];
@@ -44,12 +44,12 @@ module _ (shop sheet trace : List ℕ) {k : ℕ} {b : Problem} (end : ℕ) (room
         ahead = ahead_on shop sheet trace a x found told s ws t;
         text = next ∙ ap {B = List ℕ} (λ (j : ℕ). take j room ++ text_ahead shop sheet trace k b) e;
       }
-      go (inr w) = record {
+      go (inr e) = record {
         fits = omega (arith, space, put, same);
         out = take end room;
         all_or_none = inr refl;
         ahead = ahead_on shop sheet trace a x found told s ws t;
-        text = ap {B = List ℕ} (λ l. take end room ++ l) (next ∙ ap {B = List ℕ} (λ (j : ℕ). take j room ++ text_ahead shop sheet trace k b) w.0);
+        text = ap {B = List ℕ} (λ l. take end room ++ l) (next ∙ ap {B = List ℕ} (λ (j : ℕ). take j room ++ text_ahead shop sheet trace k b) e);
       }
 
 module _ (shop sheet trace : List ℕ) where

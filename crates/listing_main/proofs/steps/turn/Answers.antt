@@ -1,5 +1,6 @@
 -- A step of some accepted trace is taken, and its piece goes behind what the room holds (`TurnLaws`). Assumes nothing.
 use Rattle.std.proofs.Common.{sym, rules}
+use mathlib.Core.Logic.{inl, inr, ⊎_elim}
 use Rattle.listing_main.proofs.Ahead.{told_narrow}
 use Rattle.listing_main.proofs.TurnLaws.{turn_step}
 use Rattle.listing_main.proofs.steps.turn.Goals as goal
@@ -11,5 +12,5 @@ put_piece-requires-clause-narrow g c =
 
 pub returns : goal.returns
 returns g c trace ahead reads =
-    turn_step _ _ trace _ _ ahead _ (sym reads) _ _ _ c.take_step-told.ensures _ c.in_ok-space.ensures.0 c.in_ok-space.ensures.1 _ _ (search rules)
+    turn_step _ _ trace _ _ ahead _ (sym reads) _ _ _ c.take_step-told.ensures _ c.in_ok-space.ensures.0 (⊎_elim inl (λ w. inr w.0) c.in_ok-space.ensures.1) _ _ (search rules)
     c.put_piece.ensures.few c.put_piece.ensures.text
