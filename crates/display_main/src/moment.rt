@@ -27,7 +27,7 @@ fn true_count(atoms: &[bool]) -> u16
     requires { length atoms.now ≤ most_atoms }
     ensures { result ≡ length (true_atoms atoms.now) }
 {
-    // By the atom's number, here and below: through an iterator's closure or its pairs each atom took twice as long.
+    // By the atom's number, here and below: an iterator's closure, or its pairs, took twice the instructions.
     let mut count = 0;
     for atom in 0..atoms.len() {
         if atoms[atom] {
