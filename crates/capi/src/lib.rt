@@ -13,13 +13,13 @@ ghost use Rattle.hgn.specs.Questions.{answered};
 ghost use Rattle.sheet_rows.specs.Refusals.{answer_of, found_of};
 ghost use Rattle.capi.specs.Words.{refusal_words, state_bytes, ReplayLeft, LentLeft};
 
-use replay::call::replay;
+use replay::call::replay_into;
 use search::call::search;
 use sheet_check::check;
 use sheet_check::check::Shop;
 use sheet_join::call::join;
 use sheet_rows::refusal::Refusal;
-use state::atoms::{NO_ATOM, State};
+use state::atoms::NO_ATOM;
 
 // The words of an answer with a place: 0 and this place, or the number and the place of the refusal.
 fn found_words(answer: Result<u16, Refusal>) -> [u32; 2]
@@ -38,16 +38,14 @@ fn passed_words(answer: Result<(), Refusal>) -> [u32; 2]
     found_words(answer.and(Ok(0)))
 }
 
-// A state's atoms as bytes: 1 for an atom that is in, 0 for one that is not.
-fn bytes_of(atoms: [bool; Shop::MOST_ATOMS as usize]) -> [u8; Shop::MOST_ATOMS as usize]
-    ensures { result ≡ state_bytes atoms }
+// A state's atoms as bytes, 1 for an atom that is in and 0 for one that is not, written where the caller reads them.
+fn bytes_of(atoms: &[bool; Shop::MOST_ATOMS as usize], bytes: &mut [u8; Shop::MOST_ATOMS as usize])
+    ensures { bytes.new ≡ state_bytes atoms.now }
 {
-    let mut bytes = [0u8; Shop::MOST_ATOMS as usize];
     // By the atom's number: an array's own `map` makes an Option of each atom first, some 5,000 instructions more.
     for i in 0..Shop::MOST_ATOMS as usize {
         bytes[i] = u8::from(atoms[i]);
     }
-    bytes
 }
 
 // Questions 1 to 9.
@@ -83,28 +81,24 @@ pub fn hgn_replay_2(
 )
     ensures { ReplayLeft (Replay.replay shop.now order.now trace.now plan.old) plan.new answer.new atoms.new }
 {
-    match replay(shop, order, trace, plan) {
-        Ok(accepted) => {
-            *answer = [
-                0,
-                u32::from(accepted.steps),
-                u32::from(accepted.count),
-                accepted.cost,
-                u32::from(NO_ATOM),
-            ];
-            *atoms = bytes_of(accepted.state.atoms);
-        }
-        Err(failure) => {
-            *answer = [
-                u32::from(failure.number()),
-                u32::from(failure.refusal.place),
-                0,
-                0,
-                u32::from(failure.atom_word()),
-            ];
-            *atoms = bytes_of(State::empty().atoms);
-        }
-    }
+    let mut state = [false; Shop::MOST_ATOMS as usize];
+    *answer = match replay_into(shop, order, trace, plan, &mut state) {
+        Ok(counts) => [
+            0,
+            u32::from(counts.steps),
+            u32::from(counts.count),
+            counts.cost,
+            u32::from(NO_ATOM),
+        ],
+        Err(failure) => [
+            u32::from(failure.number()),
+            u32::from(failure.refusal.place),
+            0, // the plan's length
+            0, // its cost
+            u32::from(failure.atom_word()),
+        ],
+    };
+    bytes_of(&state, atoms);
 }
 
 // Questions 1 to 9 and 11 to 18, then 41 to 43. Found, the trace stands in the first 1 + 2L words of the room. The header calls it

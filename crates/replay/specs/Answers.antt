@@ -10,6 +10,7 @@ use Rattle.hgn.specs.Replay.{rules_of, Replayed, refusal, reported}
 use Rattle.step.specs.Failures.{failure_of}
 use Rattle.step.specs.declared.failure.Failure.{Failure}
 use Rattle.replay.specs.declared.answer.Accepted.{Accepted}
+use Rattle.replay.specs.declared.answer.Counts.{Counts}
 
 -- What the call answers.
 abbrev pub Answer : Type 0
@@ -20,6 +21,15 @@ abbrev pub answer_of : Answer → Replay.Answer
 answer_of (Ok a) =
     record { refusal = placed a.steps no_refusal; state = a.state.atoms; count = a.count; cost = a.cost; atom = no_atom }
 answer_of (Err f) = (refusal [] (failure_of f)).answer
+
+-- The counts and a state, as one answer.
+abbrev pub accepted_at : State → Counts → Accepted
+accepted_at s c = record { steps = c.steps; state = record { atoms = s }; count = c.count; cost = c.cost }
+
+-- What a run answers that leaves its last state where it stood: that state is the answer's, where it accepts.
+abbrev pub with_state : State → Result Counts Failure → Answer
+with_state s (Ok c) = Ok (accepted_at s c)
+with_state s (Err f) = Err f
 
 -- The answer and the room at exit.
 abbrev pub replayed_of : Answer → List ℕ → Replayed

@@ -1,6 +1,6 @@
 -- The demands of document 00 and Req 01 of document 02, read of the call `replay`: what hgn's `specs/Demands.antt` says of a replay's answer
--- and room, said of those that the call gives. `Replays` is its contract, for whatever words are lent. A value of `Promised` stands in
--- `proofs/CallDemands.antt`.
+-- and room, said of those that the call gives. `Replays` is its contract, for whatever words are lent, and that of `replay_into` too, whose
+-- answer is `with_state` of the atoms that it leaves. A value of `Promised` stands in `proofs/CallDemands.antt`.
 use Rattle.std.specs.Prelude.{ℕ, ◌≡◌, List}
 use Rattle.hgn.specs.Replay.{replay}
 use Rattle.hgn.specs.Demands.{InputsPass, ReplayAnswers, IsDefinition1, ReplayCall, NamesUnmet, TellsFirstUnmet}

@@ -35,22 +35,32 @@ fn first_node(order: &[u16], tables: &[u16]) -> Row
     Row(word(tables, 0))
 }
 
-// The atoms true at the start.
-pub fn start(shop: &[u16], order: &[u16]) -> [bool; Shop::MOST_ATOMS as usize]
+// The atoms true at the start are put where a run is to change them. What stood there is gone.
+pub fn write_start<'a>(
+    shop: &'a [u16],
+    order: &'a [u16],
+    atoms: &mut [bool; Shop::MOST_ATOMS as usize],
+)
     requires { OrderSheet.check_order shop.now order.now ≡ passed }
-    ensures { result ≡ start_of (OrderSheet.order order.now) }
+    ensures { atoms.new ≡ start_of (OrderSheet.order order.now) }
 {
     let rows = Span {
         sheet: Sheet::Order,
         from: Row(0),
         to: Row(word(order, OrderSizes::ROWS)),
     };
-    atoms::assigned(
-        State::empty().atoms,
-        rows.rows(shop, order),
-        tag::TRUE_AT_START,
-        true,
-    )
+    *atoms = [false; Shop::MOST_ATOMS as usize];
+    atoms::assign(atoms, rows.rows(shop, order), tag::TRUE_AT_START, true);
+}
+
+// The atoms true at the start.
+pub fn start(shop: &[u16], order: &[u16]) -> [bool; Shop::MOST_ATOMS as usize]
+    requires { OrderSheet.check_order shop.now order.now ≡ passed }
+    ensures { result ≡ start_of (OrderSheet.order order.now) }
+{
+    let mut atoms = State::empty().atoms;
+    write_start(shop, order, &mut atoms);
+    atoms
 }
 
 // The table of the order, for its goals.

@@ -1,15 +1,16 @@
 // The run of a trace's steps. Document 01, "How a derivation runs".
 ghost use Rattle.std.specs.Prelude.{◌≡◌, List, ℕ, ◌≤◌, ◌+◌, ◌*◌, length};
+ghost use Rattle.hgn.specs.State.{State};
 ghost use Rattle.hgn.specs.Shop.{action_count, method_count};
 ghost use Rattle.hgn.specs.Tag.{most_cost};
 ghost use Rattle.hgn.specs.Trace.{most_steps, step_count};
 ghost use Rattle.sheet_index.specs.Tables.{Indexed};
 ghost use Rattle.step.specs.Moves.{Known};
-ghost use Rattle.replay.specs.Answers.{answer_of, run_answer, end_answer};
+ghost use Rattle.replay.specs.Answers.{answer_of, with_state, run_answer, end_answer};
 ghost use Rattle.step.specs.Taking.{problem_with};
 ghost use Rattle.replay.specs.Running.{FirstGoals, TotalWith};
 
-use crate::answer::Accepted;
+use crate::answer::{Accepted, Counts};
 use network::goals::Goals;
 use network::waiting::Place;
 use sheet_check::check::{Shop, Trace};
@@ -17,7 +18,6 @@ use sheet_check::rows::word;
 use sheet_check::sizes::TraceSizes;
 use sheet_index::operators;
 use sheet_rows::refusal::Question;
-use state::atoms::State;
 use step::failure::Failure;
 use step::moves::{Move, Step};
 use step::taking;
@@ -49,18 +49,19 @@ impl Totals {
     }
 }
 
-// The steps of a trace from a state on, with the order's goals waiting, taken where both stand. What they leave there is left free.
-pub fn run(
+// The steps of a trace from a state on, with the order's goals waiting, taken where both stand: the state left there is the last one, if the
+// trace is accepted. What else they leave there is left free.
+pub fn take_all(
     shop: &[u16],
     order: &[u16],
     trace: &[u16],
     tables: &[u16],
     atoms: &mut [bool; Shop::MOST_ATOMS as usize],
     waiting: &mut Goals,
-) -> Result<Accepted, Failure>
+) -> Result<Counts, Failure>
     requires indexed { Indexed shop.now order.now tables.now × FirstGoals shop.now order.now waiting.old }
     requires trace_in_bounds { (1 + (step_count trace.now + step_count trace.now) ≤ length trace.now) × (step_count trace.now ≤ most_steps) }
-    ensures { answer_of result ≡ run_answer shop.now trace.now (problem_with shop.now order.now atoms.old waiting.old) }
+    ensures { answer_of (with_state atoms.new result) ≡ run_answer shop.now trace.now (problem_with shop.now order.now atoms.old waiting.old) }
 {
     let sizes = TraceSizes::of(trace);
     let mut totals = Totals { count: 0, cost: 0 };
@@ -76,24 +77,35 @@ pub fn run(
             Err(failure) => return Err(failure.at(number)),
         }
     }
-    ended(atoms, waiting.len(), sizes.steps, totals)
+    ended(waiting.len(), sizes.steps, totals)
+}
+
+// The same, with the last state in the answer.
+pub fn run(
+    shop: &[u16],
+    order: &[u16],
+    trace: &[u16],
+    tables: &[u16],
+    atoms: &mut [bool; Shop::MOST_ATOMS as usize],
+    waiting: &mut Goals,
+) -> Result<Accepted, Failure>
+    requires indexed { Indexed shop.now order.now tables.now × FirstGoals shop.now order.now waiting.old }
+    requires trace_in_bounds { (1 + (step_count trace.now + step_count trace.now) ≤ length trace.now) × (step_count trace.now ≤ most_steps) }
+    ensures { answer_of result ≡ run_answer shop.now trace.now (problem_with shop.now order.now atoms.old waiting.old) }
+{
+    let counts = take_all(shop, order, trace, tables, atoms, waiting)?;
+    Ok(Accepted::of(counts, atoms))
 }
 
 // After the last step: nothing waiting? 33.
-fn ended(
-    atoms: &[bool; Shop::MOST_ATOMS as usize],
-    waiting: u16,
-    steps: u16,
-    totals: Totals,
-) -> Result<Accepted, Failure>
-    ensures { answer_of result ≡ end_answer steps atoms.now waiting totals.count totals.cost }
+fn ended(waiting: u16, steps: u16, totals: Totals) -> Result<Counts, Failure>
+    ensures { (s : State) → answer_of (with_state s result) ≡ end_answer steps s waiting totals.count totals.cost }
 {
     if waiting != 0 {
         return Err(Failure::by(Question::GoalsLeft).at(steps));
     }
-    Ok(Accepted {
+    Ok(Counts {
         steps,
-        state: State { atoms: *atoms },
         count: totals.count,
         cost: totals.cost,
     })

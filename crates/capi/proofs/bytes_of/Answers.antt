@@ -1,8 +1,7 @@
 -- The facts that the loop leaves. Assumes nothing.
-use Prim.Native.Nat.{ℕ}
 use native.Mathlib.Omega.{arith}
 use mathlib.Core.Path.{◌≡◌, refl}
-use lib.ListN.{replicate, length, length-replicate}
+use lib.ListN.{length}
 use borrow.Author.Rules.{rules}
 use Rattle.hgn.specs.State.{most_atoms}
 use Rattle.capi.proofs.Bytes.{byte_more, bytes_whole}
@@ -13,12 +12,13 @@ loop-i-init c = (omega arith, refl)
 
 pub loop-i-preserved : goal.loop-i-preserved
 loop-i-preserved c = let l = c.loop-i in
-    let whole : length c.args.atoms ≡ most_atoms = search rules in
-    let zeros = length-replicate {A = ℕ} most_atoms 0 in
-    (omega arith, rw c.from.ensures (byte_more c.args.atoms (replicate most_atoms 0) l.i l.invariant.1 (omega arith) (omega arith)))
+    let whole : length c.args.atoms.now ≡ most_atoms = search rules in
+    let room : length c.args.bytes.now ≡ most_atoms = search rules in
+    (omega arith, rw c.from.ensures (byte_more c.args.atoms.now c.args.bytes.now l.i l.invariant.1 (omega (arith, whole)) (omega (arith, room))))
 
 pub returns : goal.returns
 returns c = let l = c.loop-i in
-    let whole : length c.args.atoms ≡ most_atoms = search rules in
+    let whole : length c.args.atoms.now ≡ most_atoms = search rules in
+    let room : length c.args.bytes.now ≡ most_atoms = search rules in
     let end : l.i ≡ most_atoms = omega arith in
-    bytes_whole c.args.atoms (replicate most_atoms 0) most_atoms (rw end at l.invariant.1) whole (length-replicate {A = ℕ} most_atoms 0)
+    bytes_whole c.args.atoms.now c.args.bytes.now most_atoms (rw end at l.invariant.1) whole room

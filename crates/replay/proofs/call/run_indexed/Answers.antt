@@ -16,11 +16,11 @@ begun-requires c =
       most_methods_in_bounds = c.requires.most_methods_in_bounds;
     }
 
-pub start-atoms-requires : goal.start-atoms-requires
-start-atoms-requires c = order_of_trace c.args.shop.now c.args.order.now c.args.trace.now c.requires.trace_value
+pub write_start-requires : goal.write_start-requires
+write_start-requires c = order_of_trace c.args.shop.now c.args.order.now c.args.trace.now c.requires.trace_value
 
-pub run-requires : goal.run-requires
-run-requires c =
+pub take_all-requires : goal.take_all-requires
+take_all-requires c =
     record {
       indexed = (c.begun.ensures.0, c.begun.ensures.1);
       trace_in_bounds = trace_sizes c.args.shop.now c.args.order.now c.args.trace.now c.requires.trace_value;
@@ -28,6 +28,6 @@ run-requires c =
 
 pub returns : goal.returns
 returns c =
-    c.run.ensures
+    c.take_all.ensures
     ∙ ap₂ {C = Replay.Answer} (λ (st : State) (w : List Waiting). run_answer c.args.shop.now c.args.trace.now (record { state = st; waiting = w }))
-    c.start-atoms.ensures c.begun.ensures.1.list
+    c.write_start.ensures c.begun.ensures.1.list

@@ -3,7 +3,7 @@ use Rattle.hgn.specs.Trace.{steps_of}
 use Rattle.hgn.specs.Replay.{rules_of}
 use Rattle.step.specs.Taking.{problem_with, Going}
 use Rattle.replay.proofs.Running.{Running}
-use Rattle.replay.proofs.run.run.Given as goal
+use Rattle.replay.proofs.run.take_all.Given as goal
 
 abbrev pub invariant-loop-number : goal.invariant-loop-number
 invariant-loop-number l =

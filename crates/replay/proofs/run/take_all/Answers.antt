@@ -11,7 +11,7 @@ use Rattle.replay.proofs.Running.{running_start}
 use Rattle.replay.proofs.Totals.{run_stops, run_ended}
 use Rattle.step.proofs.TakenSteps.{going_next}
 use Rattle.replay.proofs.TakenSteps.{run_goes, going_first}
-use Rattle.replay.proofs.run.run.Goals as goal
+use Rattle.replay.proofs.run.take_all.Goals as goal
 
 pub loop-number-init : goal.loop-number-init
 loop-number-init c = (running_start _ _ _, going_first _ c.requires.indexed.1)
@@ -35,7 +35,7 @@ loop-number-preserved c = (
 pub returns : goal.returns
 returns c =
     let steps = c.of-sizes.ensures.steps in
-    c.ended.ensures
+    c.ended.ensures c.loop-number.atoms
     ∙ rw (steps, c.len.ensures, ← list_length c.args.shop.now c.args.order.now c.loop-number.waiting)
     (run_ended c.args.shop.now c.args.trace.now c.requires.trace_in_bounds.0 _ c.loop-number.number _ _ _ c.loop-number.invariant.0
     (omega (arith, c.loop-number-test.false, steps)))
