@@ -21,7 +21,7 @@
  * There is no global state: calls may run in several threads at once, each on memory of its own; sheets may be shared.
  *
  * Stack, measured and read off the compiled code, since no proof bounds it: under 1 kB for the checks and hgn_join, some 12 kB
- * for hgn_replay, which does not recurse, some 85 kB for hgn_search at depth 32 (2.1 kB for each step of depth).
+ * for hgn_replay, which does not recurse, some 83 kB for hgn_search at depth 32 (2.1 kB for each step of depth).
  * HGN_REPLAY_STACK and HGN_SEARCH_STACK below leave room above that. A frame larger than a page is probed page by page, so
  * that a guard page below the stack is met and not jumped over.
  *

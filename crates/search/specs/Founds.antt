@@ -47,3 +47,8 @@ steps_of r = steps_from 0 r.length r.steps
 abbrev pub shortest_of : Std.Option Shortest → Option (List Step)
 shortest_of Std.None = none
 shortest_of (Std.Some r) = some (steps_of r)
+
+-- What a search told that leaves the steps that it finds in lent room: how many there are.
+abbrev pub shortest_in : Steps → Std.Option ℕ → Std.Option Shortest
+shortest_in s Std.None = Std.None
+shortest_in s (Std.Some n) = Std.Some (record { length = n; steps = s })

@@ -1,5 +1,7 @@
 // The search's call: its questions, and the trace written. Document 01, "Questions" 41 to 43.
-ghost use Rattle.std.specs.Prelude.{◌≡◌, ◌≤◌, ◌+◌, length};
+ghost use Rattle.std.specs.Prelude.{◌≡◌, ◌≤◌, ◌+◌, ◌*◌, length};
+ghost use Rattle.hgn.specs.Questions.{passed};
+ghost use Rattle.hgn.specs.Order.{check_order};
 ghost use Rattle.hgn.specs.Search as Search;
 ghost use Rattle.hgn.specs.Search.{most_depth};
 ghost use Rattle.hgn.specs.Trace.{trace_words};
@@ -27,6 +29,21 @@ fn write_trace(room: &mut [u16], found: Shortest)
     }
 }
 
+// Question 43, of sheets that passed, with room enough. It is compiled apart, so that a call that is refused by another question takes none of
+// the stack of a search.
+#[inline(never)]
+fn find(shop: &[u16], order: &[u16], depth: u16, room: &mut [u16]) -> Result<u16, Refusal>
+    requires passes { (check_order shop.now order.now ≡ passed) × (depth ≤ most_depth) }
+    requires fits { 1 + 2 * depth ≤ length room.old }
+    ensures { searched_of result room.new ≡ Search.search shop.now order.now depth room.old }
+{
+    let Some(found) = shortest::search_checked(shop, order, depth) else {
+        return Err(Refusal::by(Question::NoTrace));
+    };
+    write_trace(room, found);
+    Ok(found.length)
+}
+
 // Questions 1 to 9 and 11 to 18, then 41 to 43. Answers the length L of the trace found, which stands in the first 1 + 2L words of the room.
 pub fn search(shop: &[u16], order: &[u16], depth: u32, room: &mut [u16]) -> Result<u16, Refusal>
     ensures { searched_of result room.new ≡ Search.search shop.now order.now depth room.old }
@@ -38,9 +55,5 @@ pub fn search(shop: &[u16], order: &[u16], depth: u32, room: &mut [u16]) -> Resu
     if room.len() < 1 + 2 * depth as usize {
         return Err(Refusal::by(Question::SearchRoom));
     }
-    let Some(found) = shortest::search_checked(shop, order, depth as u16) else {
-        return Err(Refusal::by(Question::NoTrace));
-    };
-    write_trace(room, found);
-    Ok(found.length)
+    find(shop, order, depth as u16, room)
 }

@@ -16,11 +16,12 @@ use sheet_index::operators;
 use sheet_index::rows::Rows;
 use state::literals::{Literal, LiteralTags};
 
-// Which actions achieve a literal: none, a single one, told as an operator (operator k is action k + 1), or several.
+// Which actions achieve a literal: none, a single one, told as an operator (operator k is action k + 1), or several. A shop sheet has at most
+// 255 actions, so that an operator that is one has a byte, and an entry two.
 #[derive(Clone, Copy)]
 pub enum Achievers {
     None,
-    Only(u16),
+    Only(u8),
     Many,
 }
 
@@ -58,7 +59,8 @@ impl Table {
     {
         self.entries = [Achievers::None; Self::ENTRIES];
         for operator in 0..ShopSizes::of(shop).actions {
-            self.note_effects(operators::action_part(shop, tables, operator + 1), operator);
+            let effects = operators::action_part(shop, tables, operator + 1);
+            self.note_effects(effects, operator as u8);
         }
     }
 
@@ -81,7 +83,7 @@ impl Table {
     }
 
     // The action is noted at the literal; the table has no place for an atom past the last.
-    fn note(&mut self, literal: Literal, operator: u16)
+    fn note(&mut self, literal: Literal, operator: u8)
         ensures { self.new.entries ≡ noted operator (literal_of literal ∷ []) self.old.entries }
     {
         if Shop::MOST_ATOMS <= literal.atom.0 {
@@ -95,7 +97,7 @@ impl Table {
     }
 
     // The action is noted at the literal that the row makes, if it makes one.
-    fn note_row(&mut self, tag: u16, value: u16, operator: u16)
+    fn note_row(&mut self, tag: u16, value: u16, operator: u8)
         ensures { self.new.entries ≡ noted operator (literals Tag.makes_true Tag.makes_false (row tag value ∷ [])) self.old.entries }
     {
         if let Some(literal) = LiteralTags::EFFECTS.literal(tag, value) {
@@ -104,7 +106,7 @@ impl Table {
     }
 
     // The action is noted at each literal that these rows make.
-    fn note_effects(&mut self, rows: Rows, operator: u16)
+    fn note_effects(&mut self, rows: Rows, operator: u8)
         ensures { self.new.entries ≡ noted operator (literals Tag.makes_true Tag.makes_false (rows_in rows.entry)) self.old.entries }
     {
         for (tag, value) in rows.iter() {

@@ -48,7 +48,9 @@ fn add_achiever(
     }
     match table.achievers_of(literal) {
         Achievers::None => moves.give_up(),
-        Achievers::Only(operator) if operator < actions => moves.add(operator, 1),
+        Achievers::Only(operator) if u16::from(operator) < actions => {
+            moves.add(u16::from(operator), 1);
+        }
         _ => {}
     }
 }

@@ -11,4 +11,4 @@ returns-in-None c shop P is e o h k =
 pub returns-in-Only : goal.returns-in-Only
 returns-in-Only c shop P is e o h k =
     achiever_added shop P c.args.table.now _ (omega arith) c.holds.ensures c.if-holds.false is o h (sym c.in-Only.ensures) (omega arith)
-    c.add.ensures k
+    (rw c.from-in-Only.ensures at c.add.ensures) k
