@@ -36,11 +36,7 @@ fn first_node(order: &[u16], tables: &[u16]) -> Row
 }
 
 // The atoms true at the start are put where a run is to change them. What stood there is gone.
-pub fn write_start<'a>(
-    shop: &'a [u16],
-    order: &'a [u16],
-    atoms: &mut [bool; Shop::MOST_ATOMS as usize],
-)
+pub fn write_start(shop: &[u16], order: &[u16], atoms: &mut [bool; Shop::MOST_ATOMS as usize])
     requires { OrderSheet.check_order shop.now order.now ≡ passed }
     ensures { atoms.new ≡ start_of (OrderSheet.order order.now) }
 {
