@@ -15,7 +15,8 @@ use sheet_rows::refusal::{Question, Refusal};
 fn ask_sheets(shop: &[u16], first: &[u16], second: &[u16]) -> Result<(), Refusal>
     ensures { answer_of result ≡ answered (first_no (sheet_questions shop.now first.now second.now)) }
 {
-    check::check_order(shop, first)?;
+    check::check_shop(shop)?;
+    check::ask_order(shop, first)?;
     check::ask_order(shop, second)
 }
 
