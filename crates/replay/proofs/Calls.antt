@@ -10,7 +10,7 @@ use lib.ListN.{length, take, drop}
 use borrow.Author.Tests.{lt-leb}
 use Rattle.hgn.specs.Questions as Questions
 use Rattle.hgn.specs.Questions.{no_refusal, without_atom, ◌asks◌, Verdict, passed, refused, first_no, answered}
-use Rattle.hgn.specs.State.{State, no_atom, empty_state}
+use Rattle.hgn.specs.State.{State, no_atom}
 use Rattle.hgn.specs.Run.{problem_of, Deed, Outcome, stopped, accepted, run, plan_of}
 use Rattle.hgn.specs.Shop.{domain, action_count, shop_questions}
 use Rattle.hgn.specs.Order.{order as meaning, order_questions}
@@ -27,9 +27,8 @@ use Rattle.sheet_rows.specs.Refusals.{refusal_of}
 use Rattle.sheet_rows.specs.declared.refusal.Refusal.{Refusal}
 use Rattle.sheet_rows.proofs.Laws.{numbered}
 use Rattle.step.specs.declared.failure.Failure.{Failure}
-use Rattle.replay.specs.Answers.{answer_of, accepted_at, with_state, replayed_of, run_answer, action_moves}
+use Rattle.replay.specs.Answers.{answer_of, replayed_of, run_answer, action_moves}
 use Rattle.replay.specs.declared.answer.Accepted.{Accepted}
-use Rattle.replay.specs.declared.answer.Counts.{Counts}
 use Rattle.replay.proofs.Plans.{plan_moves, plan_is}
 
 module _ (shop order trace room : List ℕ) where
@@ -39,20 +38,6 @@ module _ (shop order trace room : List ℕ) where
   -- What the call is to give.
   abbrev Gives : Result Accepted Failure → List ℕ → Type 0
   Gives r exit = replayed_of r exit ≡ replay shop order trace room
-
-  -- The same where the last state is left in the atoms that are lent: they hold the state of the answer.
-  pub record Leaves (r : Result Counts Failure) (s : State) (exit : List ℕ) : Type 0 where
-    pub called : Gives (with_state s r) exit
-    pub state : s ≡ (replay shop order trace room).answer.state
-
-  -- Refused, the empty state is left.
-  pub leaves_empty : (f : Failure) (exit : List ℕ) → Gives (Err f) exit → Leaves (Err f) empty_state exit
-  unfolding refusal
-  leaves_empty f exit e = record { called = e; state = ap (λ (x : Replayed). x.answer.state) e }
-
-  -- Accepted, the last state is.
-  pub leaves_last : (c : Counts) (s : State) (exit : List ℕ) → Gives (Ok (accepted_at s c)) exit → Leaves (Ok c) s exit
-  leaves_last c s exit e = record { called = e; state = ap (λ (x : Replayed). x.answer.state) e }
 
   -- A refusal at a question before the run.
   before_run : (q : Questions.Failure) → check_replay shop order trace room ≡ refused q → (r : Result Accepted Failure)

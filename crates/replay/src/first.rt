@@ -35,7 +35,7 @@ fn first_node(order: &[u16], tables: &[u16]) -> Row
     Row(word(tables, 0))
 }
 
-// The atoms true at the start are put where a run is to change them. What stood there is gone.
+// The first state, the atoms true at the start, is written into lent atoms, over what stood there.
 pub fn write_start(shop: &[u16], order: &[u16], atoms: &mut [bool; Shop::MOST_ATOMS as usize])
     requires { OrderSheet.check_order shop.now order.now ≡ passed }
     ensures { atoms.new ≡ start_of (OrderSheet.order order.now) }
@@ -49,7 +49,7 @@ pub fn write_start(shop: &[u16], order: &[u16], atoms: &mut [bool; Shop::MOST_AT
     atoms::assign(atoms, rows.rows(shop, order), tag::TRUE_AT_START, true);
 }
 
-// The atoms true at the start.
+// The same, as a value.
 pub fn start(shop: &[u16], order: &[u16]) -> [bool; Shop::MOST_ATOMS as usize]
     requires { OrderSheet.check_order shop.now order.now ≡ passed }
     ensures { result ≡ start_of (OrderSheet.order order.now) }

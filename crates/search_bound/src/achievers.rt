@@ -17,7 +17,7 @@ use sheet_index::rows::Rows;
 use state::literals::{Literal, LiteralTags};
 
 // Which actions achieve a literal: none, a single one, told as an operator (operator k is action k + 1), or several. A shop sheet has at most
-// 255 actions, so that an operator that is one has a byte, and an entry two.
+// 255 actions, so a byte holds the operator, and an entry takes two.
 #[derive(Clone, Copy)]
 pub enum Achievers {
     None,

@@ -7,42 +7,43 @@ use lib.ListN.{length, take, drop}
 use Rattle.std.specs.Prelude.{Err}
 use Rattle.std.proofs.lemmas.Result.{err_from_is_err_and}
 use Rattle.hgn.specs.Questions.{Failure}
-use Rattle.hgn.specs.Replay.{refusal}
+use Rattle.hgn.specs.State.{empty_state}
+use Rattle.hgn.specs.Replay.{Replayed, refusal}
 use Rattle.hgn.specs.Trace.{step_count}
 use Rattle.hgn.proofs.Sheets.Trace.{trace_sizes}
 use Rattle.sheet_check.proofs.Lookup.{length_part}
 use Rattle.replay.specs.Answers.{action_moves}
-use Rattle.replay.proofs.Calls.{sheet_refused, sheet_passes, room_short, run_stopped, run_accepted, leaves_empty, leaves_last}
-use Rattle.hgn.specs.State.{empty_state}
+use Rattle.replay.proofs.Calls.{sheet_refused, sheet_passes, room_short, run_stopped, run_accepted}
 use Rattle.replay.proofs.call.replay_into.Goals as goal
 
+-- The state of what is told is the answer's.
+state_of : {a b : Replayed} → a ≡ b → a.answer.state ≡ b.answer.state
+state_of = ap (λ (x : Replayed). x.answer.state)
+
 pub returns-in_err-check_trace : goal.returns-in_err-check_trace
-unfolding empty_state
+unfolding empty_state refusal
 returns-in_err-check_trace c =
     let p = err_from_is_err_and c.from_residual.result c.from_residual.ensures.1 in
     let told = sheet_refused _ _ _ _ c.in_err-check_trace.field-0.0 c.in_err-check_trace.ensures (Err p.0)
     (ap (λ (f : Failure). (refusal [] f).answer) p.2) in
-    let left = leaves_empty _ _ _ _ p.0 _ told in
-    rw p.1 (record { called = left.called; state = left.state })
+    rw p.1 (record { called = told; state = state_of told })
 
 pub returns-then-plan-word : goal.returns-then-plan-word
-unfolding empty_state
+unfolding empty_state refusal
 returns-then-plan-word c =
     let told = room_short _ _ _ _ (sheet_passes _ _ _ c.args.plan.now c.in_ok-check_trace.ensures) (omega (arith, c.if-plan-word.true, c.word.ensures)) (Err c.by.result)
     (ap (λ (f : Failure). (refusal [] f).answer) c.by.ensures) in
-    let left = leaves_empty _ _ _ _ c.by.result _ told in
-    record { called = left.called; state = left.state }
+    record { called = told; state = state_of told }
 
 pub run_checked-requires : goal.run_checked-requires
 run_checked-requires c = sheet_passes _ _ _ c.args.plan.now c.in_ok-check_trace.ensures
 
 pub returns-in-Err : goal.returns-in-Err
-unfolding empty_state
+unfolding empty_state refusal
 returns-in-Err c =
     let told = run_stopped _ _ _ _ (sheet_passes _ _ _ c.args.plan.now c.in_ok-check_trace.ensures) (omega (arith, c.if-plan-word.false, c.word.ensures))
     c.in-Err.failure c.in-Err.ensures in
-    let left = leaves_empty _ _ _ _ c.in-Err.failure _ told in
-    record { called = left.called; state = left.state }
+    record { called = told; state = state_of told }
 
 pub moves_of-requires : goal.moves_of-requires
 moves_of-requires c = omega (arith, (trace_sizes _ _ _ (sheet_passes _ _ _ c.args.plan.now c.in_ok-check_trace.ensures)).0)
@@ -63,5 +64,4 @@ returns-in-Ok c =
     (c.write_plan.ensures
     ∙ ap₂ {C = List ℕ} (λ (k : ℕ) (ms : List ℕ). action_moves k ms ++ drop (length (action_moves k ms)) room)
     c.word-in-Ok.ensures c.moves_of.ensures) in
-    let left = leaves_last _ _ _ _ c.in-Ok.counts _ _ told in
-    record { called = left.called; state = left.state }
+    record { called = told; state = state_of told }
